@@ -1,0 +1,134 @@
+/*
+ * Stacks the traces of an image under a wait list, then rolls a file back.
+ * Usage: example FOLDER, the folder of the example images.
+ */
+#include "fm8502.h"
+
+#include <stdio.h>
+#include <stdlib.h>
+#include <string.h>
+
+enum {
+    INSTRUCTIONS = 90,
+    MEMORY_WORDS = 4096,
+    MOST_WAITS = 256,
+    TRACE_COUNT = 0x0F,
+    ACCUMULATORS = 0x10,
+    SAMPLES = 8
+};
+
+/* A machine with its memory. */
+typedef struct {
+    uint32_t machine[FM8502_MACHINE_WORDS];
+    uint32_t memory[MEMORY_WORDS];
+    size_t words;
+} Card;
+
+static FILE *open_file(const char *folder, const char *name, const char *mode) {
+    char path[4096];
+    snprintf(path, sizeof path, "%s/%s", folder, name);
+    FILE *file = fopen(path, mode);
+    if (!file) {
+        perror(path);
+        exit(1);
+    }
+    return file;
+}
+
+/* Ends the program unless the code is the one expected here. */
+static void expect(const char *call, uint32_t code, uint32_t expected) {
+    if (code != expected) {
+        fprintf(stderr, "%s: code %u\n", call, (unsigned)code);
+        exit(1);
+    }
+}
+
+static Card load(const char *folder, const char *name) {
+    static uint8_t bytes[FM8502_IMAGE_SIZE(MEMORY_WORDS) + 1];
+    FILE *file = open_file(folder, name, "rb");
+    size_t length = fread(bytes, 1, sizeof bytes, file);
+    fclose(file);
+    Card card;
+    uint64_t words;
+    expect("image read",
+           fm8502_image_read(bytes, length, card.memory, MEMORY_WORDS, card.machine,
+                             FM8502_MACHINE_WORDS, &words, 1),
+           FM8502_DONE);
+    card.words = (size_t)words;
+    printf("%s: %zu words\n", name, card.words);
+    return card;
+}
+
+static size_t load_waits(const char *folder, uint16_t *waits) {
+    FILE *file = open_file(folder, "stacking.waits", "r");
+    size_t entries = 0;
+    while (entries < MOST_WAITS && fscanf(file, "%hu", &waits[entries]) == 1) entries++;
+    fclose(file);
+    return entries;
+}
+
+static void print_words(const char *name, const uint32_t *words, size_t count) {
+    printf("%s", name);
+    for (size_t i = 0; i < count; i++) printf(" %08X", (unsigned)words[i]);
+    printf("\n");
+}
+
+static void stack(Card *card, const uint16_t *waits, size_t entries) {
+    uint32_t state[FM8502_STATE_WORDS] = {0};
+    memcpy(state, card->machine, sizeof card->machine);
+    Card copy = *card;
+    uint64_t result[2], finished;
+
+    expect("run",
+           fm8502_run(card->memory, card->words, waits, entries, card->machine,
+                      FM8502_MACHINE_WORDS, INSTRUCTIONS, result, 2),
+           FM8502_DONE);
+    printf("run: finished, %llu instructions, %llu clocks\n", (unsigned long long)result[0],
+           (unsigned long long)result[1]);
+    const uint32_t *flags = card->machine + FM8502_CARRY;
+    printf("flags %u%u%u%u\n", (unsigned)flags[0], (unsigned)flags[1], (unsigned)flags[2],
+           (unsigned)flags[3]);
+    print_words("registers", card->machine, 8);
+    printf("traces %u\n", (unsigned)card->memory[TRACE_COUNT]);
+    print_words("accumulators", card->memory + ACCUMULATORS, SAMPLES);
+
+    expect("gate run",
+           fm8502_gate_run(copy.memory, copy.words, waits, entries, state, FM8502_STATE_WORDS,
+                           result[1], &finished, 1),
+           FM8502_DONE);
+    printf("gate machine: %llu instructions, row %u\n", (unsigned long long)finished,
+           (unsigned)state[FM8502_ROW]);
+}
+
+static void roll_back(Card *card) {
+    Card former = *card;
+    uint32_t journal[2 * INSTRUCTIONS] = {0};
+    uint64_t result[2];
+
+    expect("file run",
+           fm8502_file_run(card->memory, card->words, journal, 2 * INSTRUCTIONS, card->machine,
+                           FM8502_MACHINE_WORDS, INSTRUCTIONS, result, 2),
+           FM8502_STOPPED);
+    printf("file run: undone, %llu instructions, %llu pairs\n", (unsigned long long)result[0],
+           (unsigned long long)result[1]);
+    print_words("journal", journal, 2 * (size_t)result[1]);
+    int same = !memcmp(card->memory, former.memory, 4 * card->words) &&
+               !memcmp(card->machine, former.machine, sizeof former.machine);
+    printf("memory and machine as before: %s\n", same ? "yes" : "no");
+
+    uint32_t code = fm8502_file_run(card->memory, card->words, journal, 9, card->machine,
+                                    FM8502_MACHINE_WORDS, INSTRUCTIONS, result, 2);
+    expect("file run", code, FM8502_JOURNAL_TOO_SHORT);
+    printf("short journal: refused %u\n", (unsigned)code);
+}
+
+int main(int count, char **arguments) {
+    const char *folder = count > 1 ? arguments[1] : "examples";
+    uint16_t waits[MOST_WAITS];
+    size_t entries = load_waits(folder, waits);
+    Card stacking = load(folder, "stacking.image");
+    stack(&stacking, waits, entries);
+    Card outside = load(folder, "outside.image");
+    roll_back(&outside);
+    return 0;
+}

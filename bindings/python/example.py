@@ -1,0 +1,65 @@
+"""Stacks the traces of an image under a wait list, then rolls a file back.
+
+Usage: example.py FOLDER, the folder of the example images.
+"""
+
+import copy
+import sys
+from array import array
+from pathlib import Path
+
+import fm8502
+
+INSTRUCTIONS = 90
+TRACE_COUNT = 0x0F
+ACCUMULATORS = slice(0x10, 0x18)
+
+
+def words(values):
+    return "".join(f" {value:08X}" for value in values)
+
+
+def load(folder, name):
+    memory, machine = fm8502.read_image((folder / name).read_bytes(), 4096)
+    print(f"{name}: {len(memory)} words")
+    return memory, machine
+
+
+def stack(memory, waits, machine):
+    copied, state = memory[:], fm8502.GateState(copy.deepcopy(machine))
+    ran = fm8502.run(memory, waits, machine, INSTRUCTIONS)
+    ending = "finished" if ran.finished else "outside"
+    print(f"run: {ending}, {ran.ran} instructions, {ran.clocks} clocks")
+    print("flags", "".join(str(int(flag)) for flag in machine.flags))
+    print("registers" + words(machine.registers))
+    print("traces", memory[TRACE_COUNT])
+    print("accumulators" + words(memory[ACCUMULATORS]))
+    finished = fm8502.gate_run(copied, waits, state, ran.clocks)
+    print(f"gate machine: {finished} instructions, row {state.row}")
+
+
+def roll_back(memory, machine):
+    former = memory[:], copy.deepcopy(machine)
+    journal = array("I", bytes(4 * 2 * INSTRUCTIONS))
+    ran = fm8502.file_run(memory, journal, machine, INSTRUCTIONS)
+    ending = "finished" if ran.finished else "undone"
+    print(f"file run: {ending}, {ran.ran} instructions, {ran.pairs} pairs")
+    print("journal" + words(journal[: 2 * ran.pairs]))
+    same = (memory, machine) == former
+    print("memory and machine as before:", "yes" if same else "no")
+    try:
+        fm8502.file_run(memory, journal[:9], machine, INSTRUCTIONS)
+    except fm8502.Refused as refused:
+        print("short journal:", refused)
+
+
+def main():
+    folder = Path(sys.argv[1] if len(sys.argv) > 1 else "examples")
+    waits = array("H", map(int, (folder / "stacking.waits").read_text().split()))
+    memory, machine = load(folder, "stacking.image")
+    stack(memory, waits, machine)
+    memory, machine = load(folder, "outside.image")
+    roll_back(memory, machine)
+
+
+main()

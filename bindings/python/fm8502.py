@@ -1,0 +1,191 @@
+"""Calls of the proved FM8502 emulator.
+
+Memory and journal are lent as array('I'), wait lists as array('H'), images as
+bytes. A call that is turned down raises Refused with the paper's number and
+leaves everything it was lent as it was.
+"""
+
+import ctypes
+import os
+from array import array
+from ctypes import c_size_t, c_uint8, c_uint16, c_uint32, c_uint64
+from dataclasses import dataclass, field
+from pathlib import Path
+
+_STOPPED = 100
+_MISFIT = 200
+
+
+class Refused(Exception):
+    """A call was turned down; `number` is the paper's, 1 to 15."""
+
+    def __init__(self, number):
+        super().__init__(f"refused {number}")
+        self.number = number
+
+
+@dataclass
+class Machine:
+    """Eight registers, r0 being the program counter, and the flags C, V, N, Z."""
+
+    registers: list = field(default_factory=lambda: [0] * 8)
+    flags: list = field(default_factory=lambda: [False] * 4)
+
+    def _words(self):
+        return [*self.registers, *map(int, self.flags)]
+
+    def _take(self, words):
+        self.registers = list(words[:8])
+        self.flags = [word != 0 for word in words[8:12]]
+
+
+@dataclass
+class GateState:
+    """The gate machine between two clocks; as given, between instructions."""
+
+    machine: Machine = field(default_factory=Machine)
+    row: int = 0
+    instruction: int = 0
+    address: int = 0
+    a: int = 0
+    b: int = 0
+    result: int = 0
+    position: int = 0
+    begun: bool = False
+    left: int = 0
+
+    _NAMES = ("row", "instruction", "address", "a", "b", "result", "position", "begun", "left")
+
+    def _words(self):
+        return [*self.machine._words(), *(int(getattr(self, name)) for name in self._NAMES)]
+
+    def _take(self, words):
+        self.machine._take(words)
+        for name, word in zip(self._NAMES, words[12:]):
+            setattr(self, name, word)
+        self.begun = bool(self.begun)
+
+
+@dataclass(frozen=True)
+class Run:
+    """How a run ended; not finished: outside, or undone for a file run."""
+
+    finished: bool
+    ran: int
+    clocks: int = 0
+    pairs: int = 0
+
+
+def _load():
+    folder = Path(__file__).resolve().parents[2] / "target" / "python"
+    return ctypes.CDLL(os.environ.get("FM8502_SO", str(folder / "libfm8502.so")))
+
+
+_library = _load()
+
+
+# The element formats that a buffer may have for each type.
+_FORMATS = {c_uint8: "B", c_uint16: "H", c_uint32: "IL"}
+
+
+def _places(kind, buffer):
+    """How many elements of the right type a buffer has."""
+    view = memoryview(buffer)
+    if view.itemsize != ctypes.sizeof(kind) or view.format.lstrip("@=<") not in _FORMATS[kind]:
+        raise TypeError(f"unsigned elements of {ctypes.sizeof(kind)} bytes are needed")
+    return len(view)
+
+
+def _lent(kind, buffer):
+    """Pointer and length of a buffer that the call may write."""
+    places = _places(kind, buffer)
+    return (kind * places).from_buffer(buffer), c_size_t(places)
+
+
+def _shown(kind, buffer):
+    """Pointer and length of a buffer that the call only reads."""
+    places = _places(kind, buffer)
+    return (kind * places).from_buffer_copy(buffer), c_size_t(places)
+
+
+def _call(name, *arguments):
+    """The code of a call that was carried out."""
+    call = getattr(_library, "fm8502_" + name)
+    call.restype = c_uint32
+    code = call(*arguments)
+    if code == _MISFIT:
+        raise ValueError("the clocks left are no number of 16 bits")
+    if code not in (0, _STOPPED):
+        raise Refused(code)
+    return code
+
+
+def _words(values):
+    # c_uint32 drops higher bits silently, so refuse them here.
+    if any(not 0 <= value < 1 << 32 for value in values):
+        raise ValueError("a register, latch or flag is not a word of 32 bits")
+    return (c_uint32 * len(values))(*values)
+
+
+def _changing(name, lent, state, middle, places):
+    """A call that changes a machine or state in place; its code and result."""
+    words = _words(state._words())
+    result = (c_uint64 * places)()
+    code = _call(name, *lent, words, c_size_t(len(words)), *middle, result, c_size_t(places))
+    state._take(words[:])
+    return code, result
+
+
+def run(memory, waits, machine, count):
+    """Runs up to count instructions with the wait list."""
+    lent = (*_lent(c_uint32, memory), *_shown(c_uint16, waits))
+    code, result = _changing("run", lent, machine, [_count(count, 32)], 2)
+    return Run(finished=code == 0, ran=result[0], clocks=result[1])
+
+
+def file_run(memory, journal, machine, count):
+    """Runs up to count instructions; a run that comes outside is taken back whole."""
+    lent = (*_lent(c_uint32, memory), *_lent(c_uint32, journal))
+    code, result = _changing("file_run", lent, machine, [_count(count, 32)], 2)
+    return Run(finished=code == 0, ran=result[0], pairs=result[1])
+
+
+def gate_run(memory, waits, state, clocks):
+    """Does so many clocks of the gate machine; returns the instructions finished."""
+    lent = (*_lent(c_uint32, memory), *_shown(c_uint16, waits))
+    return _changing("gate_run", lent, state, [_count(clocks, 64)], 1)[1][0]
+
+
+def clock(memory, waits, state):
+    """Does one clock; returns the instructions finished, 0 or 1."""
+    lent = (*_lent(c_uint32, memory), *_shown(c_uint16, waits))
+    return _changing("clock", lent, state, [], 1)[1][0]
+
+
+def _count(number, bits):
+    if not 0 <= number < 1 << bits:
+        raise ValueError(f"{number} is not a count of {bits} bits")
+    return c_uint32(number) if bits == 32 else c_uint64(number)
+
+
+def image_size(words):
+    """Bytes of the image of a memory of so many words."""
+    return 56 + 4 * words + 3 * ((words + 1023) // 1024)
+
+
+def read_image(image, room):
+    """The memory and the machine of an image of at most `room` words."""
+    memory = array("I", bytes(4 * room))
+    machine = Machine()
+    lent = (*_shown(c_uint8, image), *_lent(c_uint32, memory))
+    words = _changing("image_read", lent, machine, [], 1)[1][0]
+    return memory[:words], machine
+
+
+def write_image(memory, machine):
+    """The image of a memory and a machine."""
+    out = bytearray(image_size(len(memory)))
+    words = _words(machine._words())
+    lent = (*_shown(c_uint32, memory), words, c_size_t(len(words)), *_lent(c_uint8, out))
+    _call("image_write", *lent, (c_uint64 * 1)(), c_size_t(1))
+    return bytes(out)

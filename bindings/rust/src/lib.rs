@@ -1,0 +1,140 @@
+//! Safe calls of the proved FM8502 emulator.
+//!
+//! Every call takes what it is lent as slices, refuses bad input with the
+//! paper's number, and leaves everything lent as it was when it refuses.
+
+pub mod library;
+mod words;
+
+pub use words::{Flags, GateState, Machine};
+
+/// Why a call was turned down: the paper's number, 1 to 15.
+#[derive(Clone, Copy, Debug, PartialEq, Eq)]
+pub struct Refused(pub u32);
+
+/// How an interpreter run ended.
+#[derive(Clone, Copy, Debug, PartialEq, Eq)]
+pub struct Run {
+    /// False: the next instruction needs a word that memory does not have.
+    pub finished: bool,
+    pub ran: u32,
+    /// Clock total of the instructions that ran, their waits included.
+    pub clocks: u64,
+}
+
+/// How a file run ended.
+#[derive(Clone, Copy, Debug, PartialEq, Eq)]
+pub struct FileRun {
+    /// False: it came outside, and memory and machine are those of its start.
+    pub finished: bool,
+    pub ran: u32,
+    /// Pairs of address and former word in the journal.
+    pub pairs: u32,
+}
+
+const FINISHED: u32 = 0;
+const STOPPED: u32 = 100;
+
+/// Whether a call that was carried out ended without a missing word.
+fn carried_out(code: u32) -> Result<bool, Refused> {
+    match code {
+        FINISHED => Ok(true),
+        STOPPED => Ok(false),
+        // The wrappers lend slices of the right length, so this is 1 to 15.
+        number => Err(Refused(number)),
+    }
+}
+
+/// Runs up to `count` instructions with the wait list.
+pub fn run(
+    memory: &mut [u32],
+    waits: &[u16],
+    machine: &mut Machine,
+    count: u32,
+) -> Result<Run, Refused> {
+    let mut words = machine.to_words();
+    let mut result = [0u64; 2];
+    let finished = carried_out(library::run(memory, waits, &mut words, count, &mut result))?;
+    *machine = Machine::from_words(&words);
+    Ok(Run {
+        finished,
+        ran: result[0] as u32,
+        clocks: result[1],
+    })
+}
+
+/// Runs up to `count` instructions without waits; a run that comes outside is
+/// taken back whole. The journal has two places for each instruction.
+pub fn file_run(
+    memory: &mut [u32],
+    journal: &mut [u32],
+    machine: &mut Machine,
+    count: u32,
+) -> Result<FileRun, Refused> {
+    let mut words = machine.to_words();
+    let mut result = [0u64; 2];
+    let code = library::file_run(memory, journal, &mut words, count, &mut result);
+    let finished = carried_out(code)?;
+    *machine = Machine::from_words(&words);
+    Ok(FileRun {
+        finished,
+        ran: result[0] as u32,
+        pairs: result[1] as u32,
+    })
+}
+
+/// Does `clocks` clocks of the gate machine; returns the instructions finished.
+pub fn gate_run(
+    memory: &mut [u32],
+    waits: &[u16],
+    state: &mut GateState,
+    clocks: u64,
+) -> Result<u64, Refused> {
+    let mut words = state.to_words();
+    let mut result = [0u64; 1];
+    carried_out(library::gate_run(
+        memory,
+        waits,
+        &mut words,
+        clocks,
+        &mut result,
+    ))?;
+    *state = GateState::from_words(&words);
+    Ok(result[0])
+}
+
+/// Does one clock of the gate machine; returns whether an instruction finished.
+pub fn clock(memory: &mut [u32], waits: &[u16], state: &mut GateState) -> Result<bool, Refused> {
+    let mut words = state.to_words();
+    let mut result = [0u64; 1];
+    carried_out(library::clock(memory, waits, &mut words, &mut result))?;
+    *state = GateState::from_words(&words);
+    Ok(result[0] == 1)
+}
+
+/// Loads an image into the front of `memory`; returns its machine and how many
+/// words it has.
+pub fn read_image(image: &[u8], memory: &mut [u32]) -> Result<(Machine, usize), Refused> {
+    let mut words = [0; 12];
+    let mut result = [0u64; 1];
+    carried_out(library::image_read(image, memory, &mut words, &mut result))?;
+    Ok((Machine::from_words(&words), result[0] as usize))
+}
+
+/// The size of the image of a memory of so many words.
+pub fn image_size(words: usize) -> usize {
+    56 + 4 * words + 3 * words.div_ceil(1024)
+}
+
+/// Writes the image of a machine and a memory to the front of `out`; returns
+/// its size.
+pub fn write_image(memory: &[u32], machine: &Machine, out: &mut [u8]) -> Result<usize, Refused> {
+    let mut result = [0u64; 1];
+    carried_out(library::image_write(
+        memory,
+        &machine.to_words(),
+        out,
+        &mut result,
+    ))?;
+    Ok(result[0] as usize)
+}

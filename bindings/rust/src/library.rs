@@ -1,0 +1,205 @@
+//! The archive's calls on plain words; each returns its code as it is.
+//!
+//! A slice passes as its pointer and its length. Nothing checks these
+//! declarations against the archive, so they stand in one place.
+//!
+//! Codes: 0 carried out; 1 to 15 the paper's refusal; 100 stopped at a missing
+//! word; 200 a machine, state or result of the wrong form. After 1 to 15 and 200
+//! everything lent is as it was.
+
+mod raw {
+    extern "C" {
+        pub fn fm8502_run(
+            memory: *mut u32,
+            memory_words: usize,
+            waits: *const u16,
+            waits_entries: usize,
+            machine: *mut u32,
+            machine_words: usize,
+            count: u32,
+            result: *mut u64,
+            result_places: usize,
+        ) -> u32;
+        pub fn fm8502_file_run(
+            memory: *mut u32,
+            memory_words: usize,
+            journal: *mut u32,
+            journal_places: usize,
+            machine: *mut u32,
+            machine_words: usize,
+            count: u32,
+            result: *mut u64,
+            result_places: usize,
+        ) -> u32;
+        pub fn fm8502_gate_run(
+            memory: *mut u32,
+            memory_words: usize,
+            waits: *const u16,
+            waits_entries: usize,
+            state: *mut u32,
+            state_words: usize,
+            clocks: u64,
+            result: *mut u64,
+            result_places: usize,
+        ) -> u32;
+        pub fn fm8502_clock(
+            memory: *mut u32,
+            memory_words: usize,
+            waits: *const u16,
+            waits_entries: usize,
+            state: *mut u32,
+            state_words: usize,
+            result: *mut u64,
+            result_places: usize,
+        ) -> u32;
+        pub fn fm8502_image_read(
+            bytes: *const u8,
+            bytes_length: usize,
+            memory: *mut u32,
+            memory_words: usize,
+            machine: *mut u32,
+            machine_words: usize,
+            result: *mut u64,
+            result_places: usize,
+        ) -> u32;
+        pub fn fm8502_image_write(
+            memory: *const u32,
+            memory_words: usize,
+            machine: *const u32,
+            machine_words: usize,
+            out: *mut u8,
+            out_length: usize,
+            result: *mut u64,
+            result_places: usize,
+        ) -> u32;
+    }
+}
+
+// Safety of all calls: pointer and length are those of one slice that is
+// borrowed for the call, mutably where the library may write, and the library
+// is proved to stay within them.
+
+/// `machine`: 12 words, r0 to r7, C, V, N, Z. `result`: instructions that ran,
+/// clock total.
+pub fn run(
+    memory: &mut [u32],
+    waits: &[u16],
+    machine: &mut [u32],
+    count: u32,
+    result: &mut [u64],
+) -> u32 {
+    unsafe {
+        raw::fm8502_run(
+            memory.as_mut_ptr(),
+            memory.len(),
+            waits.as_ptr(),
+            waits.len(),
+            machine.as_mut_ptr(),
+            machine.len(),
+            count,
+            result.as_mut_ptr(),
+            result.len(),
+        )
+    }
+}
+
+/// `machine` as for [`run`]. `result`: instructions that ran, journal pairs.
+pub fn file_run(
+    memory: &mut [u32],
+    journal: &mut [u32],
+    machine: &mut [u32],
+    count: u32,
+    result: &mut [u64],
+) -> u32 {
+    unsafe {
+        raw::fm8502_file_run(
+            memory.as_mut_ptr(),
+            memory.len(),
+            journal.as_mut_ptr(),
+            journal.len(),
+            machine.as_mut_ptr(),
+            machine.len(),
+            count,
+            result.as_mut_ptr(),
+            result.len(),
+        )
+    }
+}
+
+/// `state`: 21 words, the machine's 12, row, instruction, address, a, b, result,
+/// list position, whether an access has begun, its clocks left. `result`:
+/// instructions finished.
+pub fn gate_run(
+    memory: &mut [u32],
+    waits: &[u16],
+    state: &mut [u32],
+    clocks: u64,
+    result: &mut [u64],
+) -> u32 {
+    unsafe {
+        raw::fm8502_gate_run(
+            memory.as_mut_ptr(),
+            memory.len(),
+            waits.as_ptr(),
+            waits.len(),
+            state.as_mut_ptr(),
+            state.len(),
+            clocks,
+            result.as_mut_ptr(),
+            result.len(),
+        )
+    }
+}
+
+/// As [`gate_run`] of one clock.
+pub fn clock(memory: &mut [u32], waits: &[u16], state: &mut [u32], result: &mut [u64]) -> u32 {
+    unsafe {
+        raw::fm8502_clock(
+            memory.as_mut_ptr(),
+            memory.len(),
+            waits.as_ptr(),
+            waits.len(),
+            state.as_mut_ptr(),
+            state.len(),
+            result.as_mut_ptr(),
+            result.len(),
+        )
+    }
+}
+
+/// `result`: the number of words loaded.
+pub fn image_read(
+    bytes: &[u8],
+    memory: &mut [u32],
+    machine: &mut [u32],
+    result: &mut [u64],
+) -> u32 {
+    unsafe {
+        raw::fm8502_image_read(
+            bytes.as_ptr(),
+            bytes.len(),
+            memory.as_mut_ptr(),
+            memory.len(),
+            machine.as_mut_ptr(),
+            machine.len(),
+            result.as_mut_ptr(),
+            result.len(),
+        )
+    }
+}
+
+/// `result`: the size of the image.
+pub fn image_write(memory: &[u32], machine: &[u32], out: &mut [u8], result: &mut [u64]) -> u32 {
+    unsafe {
+        raw::fm8502_image_write(
+            memory.as_ptr(),
+            memory.len(),
+            machine.as_ptr(),
+            machine.len(),
+            out.as_mut_ptr(),
+            out.len(),
+            result.as_mut_ptr(),
+            result.len(),
+        )
+    }
+}

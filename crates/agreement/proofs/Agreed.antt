@@ -1,0 +1,98 @@
+-- Demand 3 for the two public calls, from the model's agreement and the calls' contracts.
+-- Assumes nothing.
+use Prim.Native.Nat.{ℕ, _≤_}
+use mathlib.Core.Path.{_≡_, refl, sym, ap, _∙_}
+use mathlib.Core.List.{List}
+use native.Mathlib.Omega.{arith}
+use Rattle.model.specs.declared.GateState.{GateState}
+use Rattle.model.specs.declared.Machine.{Machine}
+use Rattle.model.specs.declared.Ending.{Ending}
+use Rattle.model.specs.declared.Ending.the-variants.{Finished, Outside}
+use Rattle.model.specs.declared.Refusal.{Refusal}
+use Rattle.model.specs.declared.Refusal.the-variants.{NoWords, TooManyWords, LongWaitList, BadGateState, TooManyInstructions, ShortJournal, ShortOutput, CutImage, WrongTag, WrongLength, WrongVersion, BadFlag, BadWordCount, ShortMemory, TrailingBytes}
+use Rattle.model.specs.declared.Verdict.{Verdict}
+use Rattle.model.specs.declared.Verdict.the-variants.{Accepted, Refused}
+use Rattle.model.specs.Refusals.{refusalNumber, verdictNumber, _then_, memoryFits, waitsFit, runVerdict, gateVerdict}
+use Rattle.model.specs.Interpreter.{Run, begin, interpret}
+use Rattle.model.specs.Gates.{Gate, gate, gateRun}
+use Rattle.model.specs.Agreement.{machineOf, gateFrom, interpreterFrom}
+use Rattle.model.proofs.Agreed.{agreement}
+use Rattle.interpreter.specs.declared.RunAnswer.{RunAnswer}
+use Rattle.interpreter.specs.declared.RunResult.{RunResult}
+use Rattle.interpreter.specs.Calls.{runAnswer, runResult, runMemory}
+use Rattle.interpreter.specs.Calls as Interpreter
+use Rattle.gate_machine.proofs.Valid.{resting, valid-verdict}
+use Rattle.gate_machine.proofs.Follows.{series-as-one}
+use Rattle.agreement.specs.TwoRuns.{Fresh, InStep, TwoRuns, SameVerdict}
+
+-- a verdict that all else passed
+last : (v : Verdict) → (v then Accepted) ≡ v
+last Accepted = refl
+last (Refused why) = refl
+
+pub same-verdict : SameVerdict
+unfolding gateVerdict runVerdict
+same-verdict memory waits start h =
+    let v = valid-verdict start (resting start (rw (h .row) (omega arith)) (rw (h .position) (omega arith)) (h .begun) (h .left)) in
+    ap (λ (w : Verdict). memoryFits memory then waitsFit waits then w) v ∙ ap (λ (w : Verdict). memoryFits memory then w) (last (waitsFit waits))
+
+-- every reason has a number other than 0
+numbered : (why : Refusal) → 1 ≤ refusalNumber why
+numbered NoWords = omega arith
+numbered TooManyWords = omega arith
+numbered LongWaitList = omega arith
+numbered BadGateState = omega arith
+numbered TooManyInstructions = omega arith
+numbered ShortJournal = omega arith
+numbered ShortOutput = omega arith
+numbered CutImage = omega arith
+numbered WrongTag = omega arith
+numbered WrongLength = omega arith
+numbered WrongVersion = omega arith
+numbered BadFlag = omega arith
+numbered BadWordCount = omega arith
+numbered ShortMemory = omega arith
+numbered TrailingBytes = omega arith
+
+pub accepted : (v : Verdict) → verdictNumber v ≡ 0 → v ≡ Accepted
+accepted Accepted e = refl
+accepted (Refused why) e = absurd (omega (arith, numbered why))
+
+finished-as : (e : Ending) → runAnswer e ≡ RunAnswer.Finished → e ≡ Finished
+finished-as Finished q = refl
+finished-as Outside q = absurd (let z : _≡_ {A = ℕ} 0 1 = cc in omega arith)
+
+outside-as : (e : Ending) → runAnswer e ≡ RunAnswer.Outside → e ≡ Outside
+outside-as Finished q = absurd (let z : _≡_ {A = ℕ} 0 1 = cc in omega arith)
+outside-as Outside q = refl
+
+-- what a run that is carried out returns, and leaves in the memory
+module _ (memory waits : List ℕ) (start : Machine) (n : ℕ) {r : RunResult} {words : List ℕ} (v : runVerdict memory waits ≡ Accepted) (c : Interpreter.Runs memory waits start n words r) where
+  abbrev ran : Run
+  ran = interpret waits n (begin start memory 0)
+
+  pub returned : r ≡ runResult Accepted start ran
+  returned = c .result ∙ ap (λ (w : Verdict). runResult w start ran) v
+
+  pub left-in : words ≡ ran .memory
+  left-in = c .words ∙ ap (λ (w : Verdict). runMemory w memory ran) v
+
+-- the claim for a run i of the model
+claim : (memory waits : List ℕ) (start : GateState) (n k : ℕ) → Fresh start → (i : Run) → i ≡ interpret waits n (interpreterFrom start memory)
+    → (g : Gate) → g ≡ gateRun waits k (gateFrom start memory)
+    → InStep n k (runResult Accepted (machineOf start) i) (i .memory) (g .finished) (g .state) (g .memory)
+claim memory waits start n k h i p g q =
+    let a = agreement waits start memory n k (record { row = h .row; begun = h .begun }) in
+    record {
+      marks = rw (q, p) (a .marks);
+      all = λ e. rw p (a .all (rw p at (finished-as (i .ending) e)));
+      outside = λ e. rw (q, p) (a .outside (rw p at (outside-as (i .ending) e)));
+    }
+
+pub two-runs : TwoRuns
+two-runs memory waits start n k h r words c z f s words′ w =
+    let v : runVerdict memory waits ≡ Accepted = accepted (runVerdict memory waits) (sym (c .number) ∙ z) in
+    let i = interpret waits n (begin (machineOf start) memory 0) in
+    let p : i ≡ interpret waits n (interpreterFrom start memory) = rw (h .position) in
+    let q = series-as-one waits memory start k f s words′ (same-verdict memory waits start h ∙ v) w in
+    rw (returned memory waits (machineOf start) n v c, left-in memory waits (machineOf start) n v c) (claim memory waits start n k h i p (gate s words′ f) q)

@@ -1,0 +1,65 @@
+-- Demand 3 for the public calls `interpreter::run` and `gate_machine::run`, in the terms of what they return by their contracts (document 01, "Clocks").
+-- Assumes nothing.
+use Prim.Native.Nat.{ℕ, _≤_}
+use mathlib.Core.Path.{_≡_}
+use mathlib.Core.Logic.{_↔_}
+use mathlib.Core.Bool.{true, false}
+use mathlib.Core.List.{List}
+use lib.Dec.{eqb}
+use Rattle.model.specs.declared.GateState.{GateState}
+use Rattle.model.specs.Refusals.{runVerdict, gateVerdict}
+use Rattle.model.specs.Agreement.{Mark, machineOf}
+use Rattle.interpreter.specs.declared.RunAnswer.{RunAnswer}
+use Rattle.interpreter.specs.declared.RunResult.{RunResult}
+use Rattle.interpreter.specs.Calls.{runNumber}
+use Rattle.interpreter.specs.Calls as Interpreter
+use Rattle.gate_machine.specs.Series.{Series}
+
+-- a start: row 0, list position 0, no access begun, no clocks left; registers, flags and latches are any
+pub record Fresh (s : GateState) : Type 0 where
+  pub row : s .row ≡ 0
+  pub position : s .position ≡ 0
+  pub begun : s .begun ≡ false
+  pub left : s .left ≡ 0
+
+-- the interpreter's mark: what its run returned, and its memory after it; it counts as between instructions
+abbrev pub runMark : RunResult → List ℕ → Mark
+runMark r memory =
+    record {
+      finished = r .ran;
+      between = true;
+      regs = r .machine .regs;
+      flags = r .machine .flags;
+      memory = memory;
+    }
+
+-- the gate machine's mark: the instructions that its runs finished, the state that the last one returned, and its memory after it
+abbrev pub clockMark : ℕ → GateState → List ℕ → Mark
+clockMark finished s memory =
+    record {
+      finished = finished;
+      between = eqb (s .row) 0;
+      regs = s .regs;
+      flags = s .flags;
+      memory = memory;
+    }
+
+-- The run of n instructions returned r and left `words`; k clocks finished f instructions, gave the state s and left `words′`.
+-- The marks are equal exactly when k is the clock total that was returned; a run that finished ran all n; after "outside" no more finish than ran.
+pub record InStep (n k : ℕ) (r : RunResult) (words : List ℕ) (f : ℕ) (s : GateState) (words′ : List ℕ) : Type 0 where
+  pub marks : clockMark f s words′ ≡ runMark r words ↔ (k ≡ r .clocks)
+  pub all : r .answer ≡ RunAnswer.Finished → r .ran ≡ n
+  pub outside : r .answer ≡ RunAnswer.Outside → f ≤ r .ran
+
+-- For every memory, wait list and start that the interpreter's run does not turn down, for every n, and for every k, done in one gate run or in a
+-- series of them: k is the sum of the clocks of the runs and may pass 64 bits, and f is the sum of their counts.
+abbrev pub TwoRuns : Type 0
+TwoRuns =
+    (memory waits : List ℕ) (start : GateState) (n k : ℕ) → Fresh start
+    → (r : RunResult) (words : List ℕ) → Interpreter.Runs memory waits (machineOf start) n words r → runNumber (r .answer) ≡ 0
+    → (f : ℕ) (s : GateState) (words′ : List ℕ) → Series waits memory start k f s words′
+    → InStep n k r words f s words′
+
+-- the two runs turn the same starts down, for the same reason
+abbrev pub SameVerdict : Type 0
+SameVerdict = (memory waits : List ℕ) (start : GateState) → Fresh start → gateVerdict memory waits start ≡ runVerdict memory waits

@@ -1,0 +1,33 @@
+-- Document 01's bench words, as far as the arithmetic unit goes: a row each of operation, a, b, carry and what the unit answers. All compute.
+use mathlib.Core.Path.{_≡_, refl}
+use mathlib.Core.Bool.{Bool, true, false}
+use mathlib.Core.List.{List, [], _∷_, map}
+use Prim.Native.Nat.{ℕ}
+use Rattle.arithmetic.specs.declared.AluOut.{AluOut}
+use Rattle.arithmetic.specs.Words.{signedOf, leaves}
+use Rattle.arithmetic.specs.Alu.{sumOf, differenceOf, halvedOf, answers, aluAt, aluOf}
+
+record Row : Type 0 where
+  operation : ℕ
+  a : ℕ
+  b : ℕ
+  c : Bool
+  answer : AluOut
+
+row : ℕ → ℕ → ℕ → Bool → ℕ → Bool → Bool → Row
+row o a b c r d v = record { operation = o; a = a; b = b; c = c; answer = record { result = r; carry = d; overflow = v } }
+
+rows : List Row
+rows =
+    row 1 0xFFFF_FFFF 0 false 0 true false
+    ∷ row 1 0x7FFF_FFFF 0 false 0x8000_0000 false true
+    ∷ row 7 1 0 false 0xFFFF_FFFF true false
+    ∷ row 4 0x8000_0000 0 false 0x8000_0000 true true
+    ∷ row 8 1 0 false 0 true false
+    ∷ row 8 0 0 true 0x8000_0000 false false
+    ∷ row 3 9 1 false 10 false false
+    ∷ []
+
+examples : map (λ (w : Row). aluOf (w .operation) (w .a) (w .b) (w .c)) rows ≡ map (λ (w : Row). w .answer) rows
+unfolding rows row aluOf aluAt answers sumOf differenceOf halvedOf leaves signedOf
+examples = refl

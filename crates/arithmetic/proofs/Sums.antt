@@ -1,0 +1,124 @@
+-- One law for sums and one for differences, at every width: a word r and a bit d that make the equation of values true are the result and the carry, and the overflow
+-- is read off the three top bits.
+use Prim.Native.Nat.{ℕ, suc, _+_, _-_, _*_, _%_, _≤_, _<_, _^_}
+use mathlib.Core.Path.{_≡_, refl, sym, ap, ap₂, _∙_}
+use mathlib.Core.Bool.{Bool, true, false, _&&_, _||_}
+use native.Mathlib.Omega.{arith}
+use native.Mathlib.Nat.{pow-suc, mod-eq-of-lt, add-mul-mod-self-right}
+use lib.Dec.{ltb, leb}
+use lib.IntN.{ℤ}
+use borrow.Author.Tests.{lt-ltb, le-ltb, le-leb, lt-leb, leb-true, leb-false}
+use Rattle.arithmetic.specs.declared.AluOut.{AluOut}
+use Rattle.arithmetic.specs.Words.{asNumber, topOf, leaves, _⊕_}
+use Rattle.arithmetic.specs.Alu.{sumOf, differenceOf}
+use Rattle.arithmetic.proofs.Integers.{Is, weight, is-move, is-add, is-minus, is-pos, is-signed, is-leaves}
+
+pub out-eq : {r r′ : ℕ} {c c′ v v′ : Bool} → r ≡ r′ → c ≡ c′ → v ≡ v′
+    → _≡_ {A = AluOut} (record { result = r; carry = c; overflow = v }) (record { result = r′; carry = c′; overflow = v′ })
+out-eq p q s = λ i. record { result = p i; carry = q i; overflow = s i }
+
+pub bit-le : (c : Bool) → asNumber c ≤ 1
+bit-le true = omega arith
+bit-le false = omega arith
+
+-- what a top bit says
+abbrev Top : Bool → ℕ → ℕ → Type 0
+Top true h x = h ≤ x
+Top false h x = x < h
+
+top-says : (h x : ℕ) (t : Bool) → leb h x ≡ t → Top t h x
+top-says h x true e = leb-true h x e
+top-says h x false e = leb-false h x e
+
+top-of : (k x : ℕ) → Top (topOf k x) (2 ^ k) x
+top-of k x = top-says (2 ^ k) x (topOf k x) refl
+
+-- The true value of a sum or difference, a - b, against the signed reading of its result, r - w: the two are equal, or off by m, the number of words.
+pub data Off (a b r w m : ℕ) : Bool → Type 0 where
+  exact : a + w ≡ r + b → Off a b r w m false
+  lower : a + w + m ≡ r + b → Off a b r w m true
+  higher : a + w ≡ r + b + m → Off a b r w m true
+
+-- where they are off, and only there, the true value leaves the range of the signed readings
+off-leaves : (k r : ℕ) (v : Bool) {z : ℤ} {a b : ℕ} → Is z a b → r < 2 ^ suc k → Off a b r (weight (topOf k r) (2 ^ suc k)) (2 ^ suc k) v → leaves k z ≡ v
+off-leaves k r v {z} {a} {b} i hr o = is-leaves k i ∙ go v (signed (topOf k r) (top-of k r)) o
+  where
+    signed : (t : Bool) → Top t (2 ^ k) r → (weight t (2 ^ suc k) ≤ r + 2 ^ k) × (r < 2 ^ k + weight t (2 ^ suc k))
+    signed true p = omega (arith, pow-suc 2 k)
+    signed false p = omega arith
+
+    go : (v : Bool) {w : ℕ} → (w ≤ r + 2 ^ k) × (r < 2 ^ k + w) → Off a b r w (2 ^ suc k) v → (ltb (a + 2 ^ k) b || leb (2 ^ k + b) a) ≡ v
+    go v n (exact e) = ap₂ (λ (x y : Bool). x || y) (le-ltb (a + 2 ^ k) b (omega arith)) (lt-leb (2 ^ k + b) a (omega arith))
+    go v n (lower e) = ap (λ (x : Bool). x || leb (2 ^ k + b) a) (lt-ltb (a + 2 ^ k) b (omega (arith, pow-suc 2 k)))
+    go v n (higher e) = ap₂ (λ (x y : Bool). x || y) (le-ltb (a + 2 ^ k) b (omega (arith, pow-suc 2 k))) (le-leb (2 ^ k + b) a (omega (arith, pow-suc 2 k)))
+
+module _ (h m x y r : ℕ) (c : Bool) (dbl : m ≡ h * 2) (hx : x < m) (hy : y < m) (hr : r < m) (hc : asNumber c ≤ 1) where
+  -- a sum, by the top bits and the carry out
+  sum-off : (tx ty tr d : Bool) → Top tx h x → Top ty h y → Top tr h r → r + asNumber d * m ≡ x + y + asNumber c
+      → Off (x + y + asNumber c) (weight tx m + weight ty m) r (weight tr m) m ((tx ⊕ tr) && (ty ⊕ tr))
+  sum-off true true true true p q s e = exact (omega arith)
+  sum-off true true true false p q s e = absurd (omega arith)
+  sum-off true true false true p q s e = lower (omega arith)
+  sum-off true true false false p q s e = absurd (omega arith)
+  sum-off true false true true p q s e = absurd (omega arith)
+  sum-off true false true false p q s e = exact (omega arith)
+  sum-off true false false true p q s e = exact (omega arith)
+  sum-off true false false false p q s e = absurd (omega arith)
+  sum-off false true true true p q s e = absurd (omega arith)
+  sum-off false true true false p q s e = exact (omega arith)
+  sum-off false true false true p q s e = exact (omega arith)
+  sum-off false true false false p q s e = absurd (omega arith)
+  sum-off false false true true p q s e = absurd (omega arith)
+  sum-off false false true false p q s e = higher (omega arith)
+  sum-off false false false true p q s e = absurd (omega arith)
+  sum-off false false false false p q s e = exact (omega arith)
+
+  sum-carry : (d : Bool) → r + asNumber d * m ≡ x + y + asNumber c → leb m (x + y + asNumber c) ≡ d
+  sum-carry true e = le-leb m (x + y + asNumber c) (omega arith)
+  sum-carry false e = lt-leb m (x + y + asNumber c) (omega arith)
+
+  diff-carry : (d : Bool) → r + (y + asNumber c) ≡ x + asNumber d * m → ltb x (y + asNumber c) ≡ d
+  diff-carry true e = lt-ltb x (y + asNumber c) (omega arith)
+  diff-carry false e = le-ltb x (y + asNumber c) (omega arith)
+
+  sum-result : (d : Bool) → r + asNumber d * m ≡ x + y + asNumber c → (x + y + asNumber c) % m ≡ r
+  sum-result d e = ap (λ (n : ℕ). n % m) (sym e) ∙ add-mul-mod-self-right r (asNumber d) m ∙ mod-eq-of-lt hr
+
+  diff-result : (d : Bool) → r + (y + asNumber c) ≡ x + asNumber d * m → (x + m - (y + asNumber c)) % m ≡ r
+  diff-result true e = ap (λ (n : ℕ). n % m) (let p : x + m - (y + asNumber c) ≡ r = omega arith in p) ∙ mod-eq-of-lt hr
+  diff-result false e =
+      ap (λ (n : ℕ). n % m) (let p : x + m - (y + asNumber c) ≡ r + 1 * m = omega arith in p) ∙ add-mul-mod-self-right r 1 m ∙ mod-eq-of-lt hr
+
+-- x less y is r where r and y make x: what the one is off to one side, the other is off to the other
+turned-off : (x y r c wx wy wr m : ℕ) (v : Bool) → Off (r + y + c) (wr + wy) x wx m v → Off (x + wy) (wx + (y + c)) r wr m v
+turned-off x y r c wx wy wr m v (exact e) = exact (omega arith)
+turned-off x y r c wx wy wr m v (lower e) = higher (omega arith)
+turned-off x y r c wx wy wr m v (higher e) = lower (omega arith)
+
+module _ (k x y r : ℕ) (c d : Bool) (hx : x < 2 ^ suc k) (hy : y < 2 ^ suc k) (hr : r < 2 ^ suc k) where
+  -- the law of sums
+  pub sum-is : r + asNumber d * 2 ^ suc k ≡ x + y + asNumber c
+      → record { result = r; carry = d; overflow = (topOf k x ⊕ topOf k r) && (topOf k y ⊕ topOf k r) } ≡ sumOf k x y c
+  unfolding sumOf
+  sum-is e =
+      sym
+      (out-eq
+      (sum-result (2 ^ k) (2 ^ suc k) x y r c (pow-suc 2 k) hx hy hr (bit-le c) d e)
+      (sum-carry (2 ^ k) (2 ^ suc k) x y r c (pow-suc 2 k) hx hy hr (bit-le c) d e)
+      (off-leaves k r _
+      (is-move {c = x + y + asNumber c} {d = weight (topOf k x) (2 ^ suc k) + weight (topOf k y) (2 ^ suc k)} (is-add (is-add (is-signed k x) (is-signed k y)) (is-pos (asNumber c))) (omega arith)) hr
+      (sum-off (2 ^ k) (2 ^ suc k) x y r c (pow-suc 2 k) hx hy hr (bit-le c) (topOf k x) (topOf k y) (topOf k r) d (top-of k x) (top-of k y) (top-of k r) e)))
+
+  -- the law of differences
+  pub difference-is : r + (y + asNumber c) ≡ x + asNumber d * 2 ^ suc k
+      → record { result = r; carry = d; overflow = (topOf k r ⊕ topOf k x) && (topOf k y ⊕ topOf k x) } ≡ differenceOf k x y c
+  unfolding differenceOf
+  difference-is e =
+      sym
+      (out-eq
+      (diff-result (2 ^ k) (2 ^ suc k) x y r c (pow-suc 2 k) hx hy hr (bit-le c) d e)
+      (diff-carry (2 ^ k) (2 ^ suc k) x y r c (pow-suc 2 k) hx hy hr (bit-le c) d e)
+      (off-leaves k r _
+      (is-move {c = x + weight (topOf k y) (2 ^ suc k)} {d = weight (topOf k x) (2 ^ suc k) + (y + asNumber c)} (is-minus (is-minus (is-signed k x) (is-signed k y)) (is-pos (asNumber c))) (omega arith)) hr
+      (turned-off x y r (asNumber c) _ _ _ (2 ^ suc k) _
+      (sum-off (2 ^ k) (2 ^ suc k) r y x c (pow-suc 2 k) hr hy hx (bit-le c) (topOf k r) (topOf k y) (topOf k x) d (top-of k r) (top-of k y) (top-of k x) (omega arith)))))

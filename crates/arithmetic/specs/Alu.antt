@@ -1,0 +1,64 @@
+-- What the arithmetic unit answers, by operation, at every width of k + 1 bits. The machine's is `aluOf`, at 32 bits.
+use Prim.Native.Nat.{ℕ, suc, _+_, _-_, _*_, _/_, _%_, _^_}
+use mathlib.Core.Bool.{Bool, true, false}
+use mathlib.Core.List.{List, [], _∷_}
+use lib.ListN.{getD}
+use lib.Dec.{leb, ltb, eqb}
+use lib.Bits.{bitAnd, bitOr, bitXor}
+use lib.IntN.{pos, _+ℤ_, _-ℤ_}
+use Rattle.arithmetic.specs.declared.AluOut.{AluOut}
+use Rattle.arithmetic.specs.Words.{asNumber, topOf, signedOf, leaves}
+
+-- a result that sets neither carry nor overflow
+abbrev pub plainOf : ℕ → AluOut
+plainOf x = record { result = x; carry = false; overflow = false }
+
+-- x + y + c. Carry: the sum reaches 2 ^ (k + 1). Overflow: the sum of the signed readings leaves the range
+unfoldable pub sumOf : ℕ → ℕ → ℕ → Bool → AluOut
+sumOf k x y c =
+    record {
+      result = (x + y + asNumber c) % 2 ^ suc k;
+      carry = leb (2 ^ suc k) (x + y + asNumber c);
+      overflow = leaves k (signedOf k x +ℤ signedOf k y +ℤ pos (asNumber c));
+    }
+
+-- x - y - c. Carry: the difference is below zero. Overflow: the difference of the signed readings leaves the range
+unfoldable pub differenceOf : ℕ → ℕ → ℕ → Bool → AluOut
+differenceOf k x y c =
+    record {
+      result = (x + 2 ^ suc k - (y + asNumber c)) % 2 ^ suc k;
+      carry = ltb x (y + asNumber c);
+      overflow = leaves k (signedOf k x -ℤ signedOf k y -ℤ pos (asNumber c));
+    }
+
+-- a halved, with the top bit given. Carry: the bit shifted out
+unfoldable pub halvedOf : ℕ → Bool → ℕ → AluOut
+halvedOf k top a = record { result = a / 2 + asNumber top * 2 ^ k; carry = eqb (a % 2) 1; overflow = false }
+
+-- operations 0 to 14, in their order
+unfoldable pub answers : ℕ → ℕ → ℕ → Bool → List AluOut
+answers k a b c =
+    plainOf a
+    ∷ sumOf k a 0 true
+    ∷ sumOf k b a c
+    ∷ sumOf k b a false
+    ∷ differenceOf k 0 a false
+    ∷ differenceOf k a 0 true
+    ∷ differenceOf k b a c
+    ∷ differenceOf k b a false
+    ∷ halvedOf k c a
+    ∷ halvedOf k (topOf k a) a
+    ∷ halvedOf k false a
+    ∷ plainOf (bitXor a b)
+    ∷ plainOf (bitOr a b)
+    ∷ plainOf (bitAnd a b)
+    ∷ plainOf (2 ^ suc k - 1 - a)
+    ∷ []
+
+-- 15 moves a as 0 does
+unfoldable pub aluAt : ℕ → ℕ → ℕ → ℕ → Bool → AluOut
+aluAt k operation a b c = getD (answers k a b c) operation (plainOf a)
+
+-- the card's unit: 32 bits, and four lines for the operation, so that only the low four bits of its number count
+unfoldable pub aluOf : ℕ → ℕ → ℕ → Bool → AluOut
+aluOf operation a b c = aluAt 31 (operation % 16) a b c

@@ -1,0 +1,27 @@
+-- Words of any width from 1 bit up, as numbers. A width is written k + 1, so that its half power is `2 ^ k`.
+use Prim.Native.Nat.{ℕ, suc, _^_}
+use mathlib.Core.Bool.{Bool, true, false, not, cond, _||_, Bool·beq}
+use lib.Dec.{ltb, leb}
+use lib.IntN.{ℤ, pos, negℤ, _-ℤ_}
+use lib.Signed.{ltZ, leZ}
+
+-- a bit as a number
+abbrev pub asNumber : Bool → ℕ
+asNumber true = 1
+asNumber false = 0
+
+infixl 5 _⊕_
+abbrev pub _⊕_ : Bool → Bool → Bool
+a ⊕ b = not (Bool·beq a b)
+
+-- the top bit of a word of k + 1 bits
+abbrev pub topOf : ℕ → ℕ → Bool
+topOf k x = leb (2 ^ k) x
+
+-- the signed reading of a word of k + 1 bits: from 2 ^ k on it is 2 ^ (k + 1) less
+unfoldable pub signedOf : ℕ → ℕ → ℤ
+signedOf k x = cond (ltb x (2 ^ k)) (pos x) (pos x -ℤ pos (2 ^ suc k))
+
+-- an integer leaves the range -2 ^ k to 2 ^ k - 1 that k + 1 bits can hold
+unfoldable pub leaves : ℕ → ℤ → Bool
+leaves k z = ltZ z (negℤ (pos (2 ^ k))) || leZ (pos (2 ^ k)) z

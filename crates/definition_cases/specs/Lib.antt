@@ -1,0 +1,2 @@
+pub mod Shape
+pub mod Cases

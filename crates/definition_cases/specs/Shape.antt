@@ -1,0 +1,99 @@
+-- Generated cases of both engines: inputs, what the reference emulator gave, and whether the model's definitions give the same.
+-- Assumes nothing.
+use Prim.Native.Nat.{ℕ, suc, _+_, _*_}
+use mathlib.Core.Bool.{Bool, true, false, cond, _&&_}
+use mathlib.Core.List.{List, [], _∷_}
+use lib.Dec.{eqb}
+use lib.ListN.{getD}
+use Rattle.arithmetic.specs.Words.{asNumber}
+use Rattle.model.specs.declared.Flags.{Flags}
+use Rattle.model.specs.declared.GateState.{GateState}
+use Rattle.model.specs.declared.Ending.{Ending}
+use Rattle.model.specs.declared.Ending.the-variants.{Finished, Outside}
+use Rattle.model.specs.Words.{bit}
+use Rattle.model.specs.Interpreter.{Run, begin, interpret}
+use Rattle.model.specs.Gates.{Gate, gateRun}
+use Rattle.model.specs.Agreement.{gateFrom}
+use Rattle.model.specs.Journal.{journalPairs, journalWords}
+
+abbrev pub same : List ℕ → List ℕ → Bool
+same [] [] = true
+same [] (y ∷ ys) = false
+same (x ∷ xs) [] = false
+same (x ∷ xs) (y ∷ ys) = eqb x y && same xs ys
+
+-- flags as a number: C is 8, V 4, N 2, Z 1
+abbrev pub flagsOf : ℕ → Flags
+flagsOf n = record { carry = bit n 3; overflow = bit n 2; negative = bit n 1; zero = bit n 0 }
+
+abbrev pub flagNumber : Flags → ℕ
+flagNumber f = 8 * asNumber (f .carry) + 4 * asNumber (f .overflow) + 2 * asNumber (f .negative) + asNumber (f .zero)
+
+abbrev pub isOutside : Ending → Bool
+isOutside Finished = false
+isOutside Outside = true
+
+-- ---- runs of the interpreter, with the journal of a file run
+
+pub data RunCase : Type 0 where
+  runCase : (memory regs : List ℕ) (flags : ℕ) (waits : List ℕ) (n : ℕ) (memory′ regs′ : List ℕ) (flags′ : ℕ) (journal : List ℕ) (ran clocks : ℕ) (outside : Bool) → RunCase
+
+abbrev pub sameBool : Bool → Bool → Bool
+sameBool true b = b
+sameBool false true = false
+sameBool false false = true
+
+abbrev pub runHolds : RunCase → Bool
+runHolds (runCase memory regs flags waits n memory′ regs′ flags′ journal ran clocks outside) =
+    let start = begin (record { regs = regs; flags = flagsOf flags }) memory 0 in
+    let r = interpret waits n start in
+    same (r .memory) memory′
+    && same (r .machine .regs) regs′
+    && eqb (flagNumber (r .machine .flags)) flags′
+    && same (journalWords (journalPairs waits n start)) journal
+    && eqb (r .ran) ran
+    && eqb (r .clocks) clocks
+    && sameBool (isOutside (r .ending)) outside
+
+-- ---- gate runs; a state is its registers, and in a list its flags, row, latches, position, access begun, clocks left
+
+pub data GateCase : Type 0 where
+  gateCase : (memory waits regs latches : List ℕ) (clocks : ℕ) (memory′ regs′ latches′ : List ℕ) (finished : ℕ) → GateCase
+
+abbrev pub stateOf : List ℕ → List ℕ → GateState
+stateOf regs latches =
+    record {
+      regs = regs;
+      flags = flagsOf (getD latches 0 0);
+      row = getD latches 1 0;
+      instruction = getD latches 2 0;
+      address = getD latches 3 0;
+      a = getD latches 4 0;
+      b = getD latches 5 0;
+      result = getD latches 6 0;
+      position = getD latches 7 0;
+      begun = eqb (getD latches 8 0) 1;
+      left = getD latches 9 0;
+    }
+
+abbrev pub latchesOf : GateState → List ℕ
+latchesOf s =
+    flagNumber (s .flags) ∷ s .row ∷ s .instruction ∷ s .address ∷ s .a ∷ s .b ∷ s .result ∷ s .position ∷ asNumber (s .begun) ∷ s .left ∷ []
+
+abbrev pub gateHolds : GateCase → Bool
+gateHolds (gateCase memory waits regs latches clocks memory′ regs′ latches′ finished) =
+    let g = gateRun waits clocks (gateFrom (stateOf regs latches) memory) in
+    same (g .memory) memory′
+    && same (g .state .regs) regs′
+    && same (latchesOf (g .state)) latches′
+    && eqb (g .finished) finished
+
+-- ---- the numbers of the cases that do not hold
+
+abbrev pub runFailures : ℕ → List RunCase → List ℕ
+runFailures i [] = []
+runFailures i (c ∷ cs) = cond (runHolds c) (runFailures (suc i) cs) (i ∷ runFailures (suc i) cs)
+
+abbrev pub gateFailures : ℕ → List GateCase → List ℕ
+gateFailures i [] = []
+gateFailures i (c ∷ cs) = cond (gateHolds c) (gateFailures (suc i) cs) (i ∷ gateFailures (suc i) cs)

@@ -1,0 +1,63 @@
+use borrow.Author.Tests.{not-true, not-false, lt-ltb, le-ltb}
+use borrow.Author.Needs.{needs}
+use Rattle.model.specs.Gates.{remaining, positionNow}
+use Rattle.gate_machine.specs.Clock.{grantOf}
+use Rattle.gate_machine.proofs.access.granted.Statement.{statement}
+use Rattle.gate_machine.proofs.access.granted.Tie as tie
+
+untouched-requires : tie.Need-untouched-requires
+untouched-requires c κs = search needs
+
+returns : tie.Need-returns
+unfolding grantOf
+returns c = rw (not-true (c .before .before .before .args .access) (c .before .if1 .taken)) (c .untouched .ensures)
+
+wide-requires : tie.Need-wide-requires
+wide-requires c κs = search needs
+
+untouched-requires-2 : tie.Need-untouched-requires-2
+untouched-requires-2 c κs = search needs
+
+returns-2 : tie.Need-returns-2
+unfolding grantOf
+returns-2 c = rw (not-false (c .before .before .before .before .before .args .access) (c .before .before .before .if1 .left), le-ltb (c .before .before .before .before .before .args .s .address) (c .before .before .before .before .before .args .words) (rw (c .before .before .wide .ensures) at (c .before .if2 .taken))) (c .untouched2 .ensures)
+
+one-less-requires : tie.Need-one-less-requires
+one-less-requires c κs = search needs
+
+acknowledged-requires : tie.Need-acknowledged-requires
+acknowledged-requires c κs = search needs
+
+returns-3 : tie.Need-returns-3
+unfolding grantOf remaining positionNow
+returns-3 c = rw (not-false (c .before .before .before .before .before .before .before .args .access) (c .before .before .before .before .before .if1 .left), lt-ltb (c .before .before .before .before .before .before .before .args .s .address) (c .before .before .before .before .before .before .before .args .words) (rw (c .before .before .before .before .wide .ensures) at (c .before .before .before .if2 .left)), c .before .before .if3 .taken, ← (c .before .one-less .ensures)) (c .acknowledged .ensures)
+
+wait-at-requires : tie.Need-wait-at-requires
+wait-at-requires c κs = search needs
+
+next-wait-requires : tie.Need-next-wait-requires
+next-wait-requires c κs = search needs
+
+acknowledged-requires-2 : tie.Need-acknowledged-requires-2
+acknowledged-requires-2 c κs = search needs
+
+returns-4 : tie.Need-returns-4
+unfolding grantOf remaining positionNow
+returns-4 c = rw (not-false (c .before .before .before .before .before .before .before .before .args .access) (c .before .before .before .before .before .before .if1 .left), lt-ltb (c .before .before .before .before .before .before .before .before .args .s .address) (c .before .before .before .before .before .before .before .before .args .words) (rw (c .before .before .before .before .before .wide .ensures) at (c .before .before .before .before .if2 .left)), c .before .before .before .if3 .left, ← (c .before .next-wait .ensures), ← (c .before .before .wait-at .ensures)) (c .acknowledged2 .ensures)
+
+pub granted-spec : {M : Type 1} → statement M
+granted-spec =
+    tie.close
+    (tie.spec
+    untouched-requires
+    returns
+    wide-requires
+    untouched-requires-2
+    returns-2
+    one-less-requires
+    acknowledged-requires
+    returns-3
+    wait-at-requires
+    next-wait-requires
+    acknowledged-requires-2
+    returns-4)

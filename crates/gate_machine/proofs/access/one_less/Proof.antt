@@ -1,0 +1,16 @@
+use borrow.Author.Needs.{needs}
+use Rattle.gate_machine.proofs.Laws.{less-one, less-none}
+use Rattle.gate_machine.proofs.access.one_less.Statement.{statement}
+use Rattle.gate_machine.proofs.access.one_less.Tie as tie
+
+sub-result : tie.Need-sub-result
+sub-result c = search needs
+
+returns : tie.Need-returns
+returns c = less-one (c .before .args .left) (c .if1 .taken)
+
+returns-2 : tie.Need-returns-2
+returns-2 c = less-none (c .before .args .left) (c .if1 .left)
+
+pub one-less-spec : {M : Type 1} → statement M
+one-less-spec = tie.close (tie.spec sub-result returns returns-2)

@@ -1,0 +1,17 @@
+use mathlib.Core.Path.{ap}
+use borrow.Author.Needs.{needs}
+use Rattle.gate_machine.specs.Outcome.{clockedOf}
+use Rattle.gate_machine.proofs.clock.Statement.{statement}
+use Rattle.gate_machine.proofs.clock.Tie as tie
+
+run-requires : tie.Need-run-requires
+run-requires c κs = search needs
+
+same-length : tie.Need-same-length
+same-length c = search needs
+
+returns : tie.Need-returns
+returns c = record { result = ap clockedOf (c .before .before .before .run .ensures .result); number = c .before .before .before .run .ensures .number; words = c .before .before .before .run .ensures .words }
+
+pub clock-spec : {M : Type 1} → statement M
+clock-spec = tie.close (tie.spec run-requires same-length returns)

@@ -1,0 +1,86 @@
+// The access protocol: an access takes its wait on its first clock, counts it down, and does the row's work on the last.
+use gate_rows::Latches;
+use instruction::memory::wide;
+ghost use mathlib.Core.Path.{_≡_};
+ghost use mathlib.Core.List.{[]};
+ghost use Prim.Native.Nat.{_≤_};
+ghost use lib.Dec.{ltb};
+ghost use lib.ListN.{length};
+ghost use Rattle.model.specs.Waits.{waitAt, nextWait};
+ghost use Rattle.model.specs.Gates.{oneLess};
+ghost use Rattle.gate_rows.specs.Work.{stateOf};
+ghost use Rattle.gate_machine.specs.Clock.{acknowledgedAt, untouchedAt, grantOf};
+
+fn wait_at(waits: &[u16], position: u32) -> u16
+    ensures { λ r. ⌜ r ≡ waitAt (now (waits .entry)) position ⌝ }
+{
+    let i = wide(position);
+    if i < waits.len() { waits[i] } else { 0 }
+}
+
+fn next_wait(waits: &[u16], position: u32) -> u32
+    requires { ⌜ length (now waits) ≤ 65536 ⌝ }
+    ensures { λ r. ⌜ r ≡ nextWait (now (waits .entry)) position ⌝ }
+{
+    if wide(position) < waits.len() {
+        position + 1
+    } else {
+        position
+    }
+}
+
+fn one_less(left: u16) -> u16
+    ensures { λ r. ⌜ r ≡ oneLess left ⌝ }
+{
+    if 0 < left { left - 1 } else { 0 }
+}
+
+// Whether the row's work is done, and the access as this clock leaves it.
+// Not packed into eight bytes: those would travel as one word, to be taken apart on each clock.
+pub struct Grant {
+    pub works: bool,
+    pub position: u32,
+    pub begun: bool,
+    pub left: u16,
+}
+
+// An acknowledged access with `left` clocks after this one.
+fn acknowledged(left: u16, position: u32) -> Grant
+    ensures { λ r. ⌜ r ≡ acknowledgedAt left position ⌝ }
+{
+    Grant {
+        position,
+        left,
+        begun: left != 0,
+        works: left == 0,
+    }
+}
+
+// The access as it was.
+fn untouched(s: Latches, works: bool) -> Grant
+    ensures { λ r. ⌜ r ≡ untouchedAt works (stateOf [] s) ⌝ }
+{
+    Grant {
+        position: s.position,
+        left: s.left,
+        begun: s.begun,
+        works,
+    }
+}
+
+// A row that is no access works at once; an absent address is never acknowledged.
+pub fn granted(s: Latches, access: bool, words: usize, waits: &[u16]) -> Grant
+    requires { ⌜ length (now waits) ≤ 65536 ⌝ }
+    ensures { λ r. ⌜ r ≡ grantOf access (ltb (s .address) words) (now (waits .entry)) (stateOf [] s) ⌝ }
+{
+    if !access {
+        return untouched(s, true);
+    }
+    if words <= wide(s.address) {
+        return untouched(s, false);
+    }
+    if s.begun {
+        return acknowledged(one_less(s.left), s.position);
+    }
+    acknowledged(wait_at(waits, s.position), next_wait(waits, s.position))
+}

@@ -1,0 +1,85 @@
+// The gate machine: a run of clocks, one clock by value, and one clock on a borrowed state.
+mod access;
+mod checks;
+mod index;
+mod machine;
+mod parts;
+
+use checks::verdict_of;
+use machine::run_clocks;
+use model::GateState;
+use model::Refusal;
+use model::Verdict;
+ghost use Rattle.gate_machine.specs.Outcome.{Runs, Clocks, LentClock};
+
+pub enum GateAnswer {
+    Ran,
+    Refused(Refusal),
+}
+
+pub struct GateResult {
+    pub answer: GateAnswer,
+    pub state: GateState,
+    pub finished: u64,
+}
+
+// A gate result without its state.
+pub struct Outcome {
+    pub answer: GateAnswer,
+    pub finished: u64,
+}
+
+pub struct Clocked {
+    pub outcome: Outcome,
+    pub state: GateState,
+}
+
+// All the clocks that are asked for, unless the call is turned down.
+pub fn run(memory: &mut [u32], waits: &[u16], start: GateState, clocks: u64) -> GateResult
+    ensures { λ r. ⌜ Runs (now (memory .entry)) (now (waits .entry)) start clocks r (now (memory .exit)) ⌝ }
+{
+    let verdict = verdict_of(&*memory, waits, start);
+    match verdict {
+        Verdict::Accepted => {
+            let end = run_clocks(memory, waits, start, clocks);
+            let state = end.state;
+            GateResult {
+                answer: GateAnswer::Ran,
+                state,
+                finished: end.finished,
+            }
+        }
+        Verdict::Refused(why) => GateResult {
+            answer: GateAnswer::Refused(why),
+            state: start,
+            finished: 0,
+        },
+    }
+}
+
+// A run of one clock.
+pub fn clock(state: GateState, memory: &mut [u32], waits: &[u16]) -> Clocked
+    ensures { λ r. ⌜ Clocks (now (memory .entry)) (now (waits .entry)) state r (now (memory .exit)) ⌝ }
+{
+    let r = run(memory, waits, state, 1);
+    let answer = r.answer;
+    let after = r.state;
+    let outcome = Outcome {
+        answer,
+        finished: r.finished,
+    };
+    Clocked {
+        outcome,
+        state: after,
+    }
+}
+
+// One clock on a borrowed state: copied out, clocked by value, stored.
+pub fn clock_lent(state: &mut GateState, memory: &mut [u32], waits: &[u16]) -> Outcome
+    ensures { λ r. ⌜ LentClock (now (memory .entry)) (now (waits .entry)) (now (state .entry)) r (now (state .exit)) (now (memory .exit)) ⌝ }
+{
+    let s = *state;
+    let r = clock(s, memory, waits);
+    *state = r.state;
+    r.outcome
+}

@@ -1,0 +1,85 @@
+// One clock on registers that are lent, and the loop over the clocks, which alone calls it.
+use super::access::granted;
+use super::index::row_index;
+use super::parts::latches_of;
+use super::parts::state_of;
+use gate_rows::Latches;
+use gate_rows::Step;
+use gate_rows::steps;
+use gate_rows::work;
+use model::GateState;
+use model::Verdict;
+ghost use mathlib.Core.Path.{_≡_};
+ghost use Prim.Native.Nat.{_≤_};
+ghost use lib.ListN.{length};
+ghost use Rattle.arithmetic.specs.Words.{asNumber};
+ghost use Rattle.model.specs.Refusals.{gateVerdict};
+ghost use Rattle.model.specs.Gates.{gate, gateRun};
+ghost use Rattle.model.specs.Agreement.{gateFrom};
+ghost use Rattle.gate_rows.specs.Table.{stepOf};
+ghost use Rattle.gate_rows.specs.Work.{stateOf};
+ghost use Rattle.gate_machine.specs.Clock.{Ticks};
+
+struct Ticked {
+    latches: Latches,
+    finished: bool,
+}
+
+// The step is the one of the state's row.
+fn tick(s: Latches, step: Step, regs: &mut [u32; 8], memory: &mut [u32], waits: &[u16]) -> Ticked
+    requires { ⌜ (step ≡ stepOf (s .row)) × (length (now waits) ≤ 65536) ⌝ }
+    ensures { λ r. ⌜ Ticks (now (waits .entry)) (stateOf (now (regs .entry)) s) (now (memory .entry)) (stateOf (now (regs .exit)) (r .latches)) (r .finished) (now (memory .exit)) ⌝ }
+{
+    let grant = granted(s, step.3 == 1, memory.len(), waits);
+    let mut t = s;
+    t.position = grant.position;
+    t.left = grant.left;
+    t.begun = grant.begun;
+    if !grant.works {
+        return Ticked {
+            latches: t,
+            finished: false,
+        };
+    }
+    let u = work(t, step, regs, memory);
+    Ticked {
+        latches: u,
+        finished: step.3 == 2,
+    }
+}
+
+pub struct GateEnd {
+    pub state: GateState,
+    pub finished: u64,
+}
+
+fn one(b: bool) -> u64
+    ensures { λ r. ⌜ r ≡ asNumber b ⌝ }
+{
+    if b { 1 } else { 0 }
+}
+
+// The step table and the registers stay in place: a clock copies neither.
+pub fn run_clocks(memory: &mut [u32], waits: &[u16], start: GateState, clocks: u64) -> GateEnd
+    requires { ⌜ gateVerdict (now memory) (now waits) start ≡ Verdict.Accepted ⌝ }
+    ensures { λ r. ⌜ gate (r .state) (now (memory .exit)) (r .finished) ≡ gateRun (now (waits .entry)) clocks (gateFrom start (now (memory .entry))) ⌝ }
+{
+    let table = steps();
+    let mut regs = start.regs;
+    let mut s = latches_of(start);
+    let mut finished: u64 = 0;
+    let mut i: u64 = 0;
+    while i < clocks {
+        let row = row_index(s.row);
+        let step = table[row];
+        let t = tick(s, step, &mut regs, &mut *memory, waits);
+        let next = t.latches;
+        s = next;
+        finished += one(t.finished);
+        i += 1;
+    }
+    GateEnd {
+        state: state_of(regs, s),
+        finished,
+    }
+}

@@ -1,0 +1,27 @@
+use borrow.Author.Needs.{needs}
+use Rattle.arithmetic.specs.Alu.{answers, aluAt, aluOf}
+use Rattle.model.specs.Alu.{alu}
+use Rattle.gate_rows.proofs.compute.unit_of.Statement.{statement}
+use Rattle.gate_rows.proofs.compute.unit_of.Tie as tie
+
+is-move-requires : tie.Need-is-move-requires
+is-move-requires c κs = search needs
+
+returns : tie.Need-returns
+unfolding alu aluOf aluAt answers
+returns c = rw (← (c .before .is-move .ensures), c .if1 .taken)
+
+operation-of-requires : tie.Need-operation-of-requires
+operation-of-requires c κs = search needs
+
+gate-unit-requires : tie.Need-gate-unit-requires
+gate-unit-requires c κs = search needs
+
+returns-2 : tie.Need-returns-2
+unfolding alu
+returns-2 c = rw (← (c .before .before .before .is-move .ensures), c .before .before .if1 .left, ← (c .before .operation-of .ensures)) (c .gate-unit .ensures)
+
+pub unit-of-spec : {M : Type 1} → statement M
+unit-of-spec =
+    tie.close
+    (tie.spec is-move-requires returns operation-of-requires gate-unit-requires returns-2)

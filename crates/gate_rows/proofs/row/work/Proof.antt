@@ -1,0 +1,201 @@
+use mathlib.Core.Path.{refl, _∙_}
+use borrow.Author.Needs.{needs}
+use Rattle.gate_rows.proofs.Laws.{by, past, prepares}
+use Rattle.gate_rows.specs.Work.{stateOf}
+use Rattle.model.specs.Gates.{withA, withB}
+use Rattle.model.specs.Operands.{operandA, operandB}
+use Rattle.gate_rows.proofs.row.work.Statement.{statement}
+use Rattle.gate_rows.proofs.row.work.Tie as tie
+
+element-copy-out-latch-address : tie.Need-element-copy-out-latch-address
+element-copy-out-latch-address c = search needs
+
+latch-address-requires : tie.Need-latch-address-requires
+latch-address-requires c κs = search needs
+
+wide-requires : tie.Need-wide-requires
+wide-requires c κs = search needs
+
+load-requires : tie.Need-load-requires
+load-requires c κs = search needs
+
+latch-instruction-requires : tie.Need-latch-instruction-requires
+latch-instruction-requires c κs = search needs
+
+step-pc-requires : tie.Need-step-pc-requires
+step-pc-requires c κs = search needs
+
+moved-requires : tie.Need-moved-requires
+moved-requires c κs = search needs
+
+operand-a-requires : tie.Need-operand-a-requires
+operand-a-requires c κs = search needs
+
+prepare-a-requires : tie.Need-prepare-a-requires
+prepare-a-requires c κs = search needs
+
+wide-requires-2 : tie.Need-wide-requires-2
+wide-requires-2 c κs = search needs
+
+load-requires-2 : tie.Need-load-requires-2
+load-requires-2 c κs = search needs
+
+latch-a-requires : tie.Need-latch-a-requires
+latch-a-requires c κs = search needs
+
+operand-b-requires : tie.Need-operand-b-requires
+operand-b-requires c κs = search needs
+
+prepare-b-requires : tie.Need-prepare-b-requires
+prepare-b-requires c κs = search needs
+
+wide-requires-3 : tie.Need-wide-requires-3
+wide-requires-3 c κs = search needs
+
+load-requires-3 : tie.Need-load-requires-3
+load-requires-3 c κs = search needs
+
+latch-b-requires : tie.Need-latch-b-requires
+latch-b-requires c κs = search needs
+
+compute-requires : tie.Need-compute-requires
+compute-requires c κs = search needs
+
+operand-b-requires-2 : tie.Need-operand-b-requires-2
+operand-b-requires-2 c κs = search needs
+
+set-register-requires : tie.Need-set-register-requires
+set-register-requires c κs = search needs
+
+moved-requires-2 : tie.Need-moved-requires-2
+moved-requires-2 c κs = search needs
+
+wide-requires-4 : tie.Need-wide-requires-4
+wide-requires-4 c κs = search needs
+
+store-requires : tie.Need-store-requires
+store-requires c κs = search needs
+
+moved-requires-3 : tie.Need-moved-requires-3
+moved-requires-3 c κs = search needs
+
+operand-a-requires-2 : tie.Need-operand-a-requires-2
+operand-a-requires-2 c κs = search needs
+
+step-up-requires : tie.Need-step-up-requires
+step-up-requires c κs = search needs
+
+moved-requires-4 : tie.Need-moved-requires-4
+moved-requires-4 c κs = search needs
+
+operand-b-requires-3 : tie.Need-operand-b-requires-3
+operand-b-requires-3 c κs = search needs
+
+step-up-requires-2 : tie.Need-step-up-requires-2
+step-up-requires-2 c κs = search needs
+
+moved-requires-5 : tie.Need-moved-requires-5
+moved-requires-5 c κs = search needs
+
+returns : tie.Need-returns
+returns c = by (c .before .before .before .before .args .step) (c .before .before .before .before .args .s) (c .before .before .before .before .args .regs .now) (c .before .before .before .before .args .memory .now) 0 (c .before .before .match .keys1) (c .latch-address .ensures _) refl
+
+same-length : tie.Need-same-length
+same-length c = search needs
+
+returns-2 : tie.Need-returns-2
+returns-2 c = by (c .before .before .before .before .before .before .args .step) (c .before .before .before .before .before .before .args .s) (c .before .before .before .before .before .before .args .regs .now) (c .before .before .before .before .before .before .args .memory .now) 1 (c .before .before .before .before .match .keys2) (c .latch-instruction .ensures _ ∙ rw (c .before .load .ensures, c .before .before .wide .ensures)) refl
+
+returns-3 : tie.Need-returns-3
+returns-3 c = by (c .before .before .before .before .before .args .step) (c .before .before .before .before .before .args .s) (c .before .before .before .before .before .args .regs .now) (c .before .before .before .before .before .args .memory .now) 2 (c .before .before .before .match .keys3) (c .moved .ensures _ ∙ rw (c .before .step-pc .ensures)) refl
+
+returns-4 : tie.Need-returns-4
+returns-4 c = by (c .before .before .before .before .before .args .step) (c .before .before .before .before .before .args .s) (c .before .before .before .before .before .args .regs .now) (c .before .before .before .before .before .args .memory .now) 3 (c .before .before .before .match .keys4) (rw (c .before .before .operand-a .ensures) at (c .prepare-a .ensures) ∙ prepares (c .before .before .before .before .before .args .step) (operandA (c .before .before .before .before .before .args .s .instruction)) withA (stateOf (c .before .before .before .before .before .args .regs .now) (c .before .before .before .before .before .args .s)) 4 5) refl
+
+same-length-2 : tie.Need-same-length-2
+same-length-2 c = search needs
+
+returns-5 : tie.Need-returns-5
+returns-5 c = by (c .before .before .before .before .before .before .args .step) (c .before .before .before .before .before .before .args .s) (c .before .before .before .before .before .before .args .regs .now) (c .before .before .before .before .before .before .args .memory .now) 4 (c .before .before .before .before .match .keys5) (c .latch-a .ensures _ ∙ rw (c .before .load2 .ensures, c .before .before .wide2 .ensures)) refl
+
+returns-6 : tie.Need-returns-6
+returns-6 c = by (c .before .before .before .before .before .args .step) (c .before .before .before .before .before .args .s) (c .before .before .before .before .before .args .regs .now) (c .before .before .before .before .before .args .memory .now) 5 (c .before .before .before .match .keys6) (rw (c .before .before .operand-b .ensures) at (c .prepare-b .ensures) ∙ prepares (c .before .before .before .before .before .args .step) (operandB (c .before .before .before .before .before .args .s .instruction)) withB (stateOf (c .before .before .before .before .before .args .regs .now) (c .before .before .before .before .before .args .s)) 6 7) refl
+
+same-length-3 : tie.Need-same-length-3
+same-length-3 c = search needs
+
+returns-7 : tie.Need-returns-7
+returns-7 c = by (c .before .before .before .before .before .before .args .step) (c .before .before .before .before .before .before .args .s) (c .before .before .before .before .before .before .args .regs .now) (c .before .before .before .before .before .before .args .memory .now) 6 (c .before .before .before .before .match .keys7) (c .latch-b .ensures _ ∙ rw (c .before .load3 .ensures, c .before .before .wide3 .ensures)) refl
+
+returns-8 : tie.Need-returns-8
+returns-8 c = by (c .before .before .before .args .step) (c .before .before .before .args .s) (c .before .before .before .args .regs .now) (c .before .before .before .args .memory .now) 7 (c .before .match .keys8) (c .compute .ensures _) refl
+
+returns-9 : tie.Need-returns-9
+returns-9 c = by (c .before .before .before .before .before .before .args .step) (c .before .before .before .before .before .before .args .s) (c .before .before .before .before .before .before .args .regs .now) (c .before .before .before .before .before .before .args .memory .now) 8 (c .before .before .before .before .match .keys9) (c .moved2 .ensures _ ∙ rw (c .before .set-register .ensures, c .before .before .before .operand-b2 .ensures)) refl
+
+same-length-4 : tie.Need-same-length-4
+same-length-4 c = search needs
+
+returns-10 : tie.Need-returns-10
+returns-10 c = by (c .before .before .before .before .before .before .before .before .args .step) (c .before .before .before .before .before .before .before .before .args .s) (c .before .before .before .before .before .before .before .before .args .regs .now) (c .before .before .before .before .before .before .before .before .args .memory .now) 9 (c .before .before .before .before .before .before .match .keys10) (c .moved3 .ensures _) (rw (c .before .before .before .before .wide4 .ensures) at (c .before .before .before .store .ensures))
+
+returns-11 : tie.Need-returns-11
+returns-11 c = by (c .before .before .before .before .before .before .args .step) (c .before .before .before .before .before .before .args .s) (c .before .before .before .before .before .before .args .regs .now) (c .before .before .before .before .before .before .args .memory .now) 10 (c .before .before .before .before .match .keys11) (c .moved4 .ensures _ ∙ rw (c .before .step-up .ensures, c .before .before .before .operand-a2 .ensures)) refl
+
+returns-12 : tie.Need-returns-12
+returns-12 c = by (c .before .before .before .before .before .before .args .step) (c .before .before .before .before .before .before .args .s) (c .before .before .before .before .before .before .args .regs .now) (c .before .before .before .before .before .before .args .memory .now) 11 (c .before .before .before .before .match .keys12) (c .moved5 .ensures _ ∙ rw (c .before .step-up2 .ensures, c .before .before .before .operand-b3 .ensures)) refl
+
+returns-13 : tie.Need-returns-13
+returns-13 c = past (c .before .before .args .step) (c .before .before .args .s) (c .before .before .args .regs .now) (c .before .before .args .memory .now) (c .match .rest)
+
+pub work-spec : {M : Type 1} → statement M
+work-spec =
+    tie.close
+    (tie.spec
+    element-copy-out-latch-address
+    latch-address-requires
+    wide-requires
+    load-requires
+    latch-instruction-requires
+    step-pc-requires
+    moved-requires
+    operand-a-requires
+    prepare-a-requires
+    wide-requires-2
+    load-requires-2
+    latch-a-requires
+    operand-b-requires
+    prepare-b-requires
+    wide-requires-3
+    load-requires-3
+    latch-b-requires
+    compute-requires
+    operand-b-requires-2
+    set-register-requires
+    moved-requires-2
+    wide-requires-4
+    store-requires
+    moved-requires-3
+    operand-a-requires-2
+    step-up-requires
+    moved-requires-4
+    operand-b-requires-3
+    step-up-requires-2
+    moved-requires-5
+    returns
+    same-length
+    returns-2
+    returns-3
+    returns-4
+    same-length-2
+    returns-5
+    returns-6
+    same-length-3
+    returns-7
+    returns-8
+    returns-9
+    same-length-4
+    returns-10
+    returns-11
+    returns-12
+    returns-13)

@@ -1,0 +1,109 @@
+-- What a row's work leaves: the model's work, with the next row taken from a step of the table. Document 01, "Clocks".
+-- Assumes nothing.
+use Prim.Native.Nat.{ℕ, _+_}
+use mathlib.Core.Path.{_≡_}
+use mathlib.Core.Bool.{Bool, cond}
+use mathlib.Core.List.{List, [], _∷_}
+use lib.Dec.{eqb}
+use lib.ListN.{getD}
+use Rattle.model.specs.declared.Operand.{Operand}
+use Rattle.model.specs.declared.GateState.{GateState}
+use Rattle.model.specs.Operands.{operandA, operandB, inMemory, stepDown, registerWord}
+use Rattle.model.specs.Alu.{alu, flagsAfter, stores}
+use Rattle.model.specs.Gates.{gate, withRow, withRegs, withFlags, withAddress, withResult, work}
+use Rattle.gate_rows.specs.declared.latches.Latches.{Latches}
+use Rattle.gate_rows.specs.declared.table.Step.{Step}
+
+-- registers and latches are a state of the gate machine
+abbrev pub stateOf : List ℕ → Latches → GateState
+stateOf regs s =
+    record {
+      regs = regs;
+      flags = s .flags;
+      row = s .row;
+      instruction = s .instruction;
+      address = s .address;
+      a = s .a;
+      b = s .b;
+      result = s .result;
+      position = s .position;
+      begun = s .begun;
+      left = s .left;
+    }
+
+-- ---- where a step leads
+
+-- the next row where an operand is in memory, where it is direct, and where nothing is stored
+abbrev pub memoryRow : Step → ℕ
+memoryRow step = step .0
+
+abbrev pub directRow : Step → ℕ
+directRow step = step .1
+
+abbrev pub skippedRow : Step → ℕ
+skippedRow step = step .2
+
+-- from the row of an operand o, and from row 7
+abbrev pub operandRow : Step → Operand → ℕ
+operandRow step o = cond (inMemory o) (memoryRow step) (directRow step)
+
+abbrev pub storeRow : Step → GateState → ℕ
+storeRow step s = cond (stores (s .instruction) (s .flags)) (operandRow step (operandB (s .instruction))) (skippedRow step)
+
+-- from each row
+abbrev pub nextRows : Step → GateState → List ℕ
+nextRows step s =
+    memoryRow step
+    ∷ memoryRow step
+    ∷ memoryRow step
+    ∷ operandRow step (operandA (s .instruction))
+    ∷ memoryRow step
+    ∷ operandRow step (operandB (s .instruction))
+    ∷ memoryRow step
+    ∷ storeRow step s
+    ∷ memoryRow step
+    ∷ memoryRow step
+    ∷ memoryRow step
+    ∷ memoryRow step
+    ∷ []
+
+-- from row r; past the table the row stays
+abbrev pub leads : Step → GateState → ℕ → ℕ
+leads step s r = getD (nextRows step s) r (s .row)
+
+-- ---- the contract of a row's work
+
+-- the state and the memory after the model's work, but that the step says where it leads
+pub record Works (step : Step) (s : Latches) (regs memory : List ℕ) (s′ : Latches) (regs′ memory′ : List ℕ) : Type 0 where
+  pub state : stateOf regs′ s′ ≡ withRow (leads step (stateOf regs s) (s .row)) (work (gate (stateOf regs s) memory 0) .state)
+  pub words : memory′ ≡ work (gate (stateOf regs s) memory 0) .memory
+
+-- ---- two rows' work, with a step
+
+-- rows 3 and 5: the register steps down; its word is the address, or the operand where that is direct
+abbrev pub preparedBy : Step → Operand → (ℕ → GateState → GateState) → GateState → GateState
+preparedBy step o latch s =
+    let down = withRegs (stepDown o (s .regs)) s in
+    let word = registerWord o (down .regs) in
+    cond (inMemory o) (withRow (memoryRow step) (withAddress word down)) (withRow (directRow step) (latch word down))
+
+-- row 7
+abbrev pub computed : Step → GateState → GateState
+computed step s =
+    let out = alu (s .instruction) (s .flags) (s .a) (s .b) in
+    withRow (storeRow step s) (withFlags (flagsAfter (s .instruction) (s .flags) out) (withResult (out .result) s))
+
+-- ---- the control marks
+
+abbrev pub marks : Step → ℕ
+marks step = step .3
+
+abbrev pub accesses : Step → Bool
+accesses step = eqb (marks step) 1
+
+abbrev pub finishes : Step → Bool
+finishes step = eqb (marks step) 2
+
+-- the instructions that have finished, one more where the row finishes one
+abbrev pub counted : Bool → ℕ → ℕ
+counted finishes f = cond finishes (f + 1) f

@@ -1,0 +1,59 @@
+// Row 7: the arithmetic unit of gates, the flags, and where the result goes.
+use super::latches::Latches;
+use super::table::Step;
+use arithmetic::AluOut;
+use gates::gate_unit;
+use instruction::effect::flags_after;
+use instruction::effect::is_move;
+use instruction::effect::is_stored;
+use instruction::effect::operation_of;
+use instruction::operand::in_memory;
+use instruction::operand::operand_b;
+use model::Flags;
+ghost use mathlib.Core.Path.{_≡_};
+ghost use mathlib.Core.Bool.{cond};
+ghost use mathlib.Core.List.{List};
+ghost use Prim.Native.Nat.{ℕ};
+ghost use Rattle.model.specs.Alu.{alu};
+ghost use Rattle.gate_rows.specs.Work.{stateOf, computed};
+
+// The arithmetic unit of gates, told by the instruction word; a move goes past it.
+fn unit_of(word: u32, flags: Flags, a: u32, b: u32) -> AluOut
+    ensures { λ r. ⌜ r ≡ alu word flags a b ⌝ }
+{
+    if is_move(word) {
+        return AluOut {
+            result: a,
+            carry: false,
+            overflow: false,
+        };
+    }
+    gate_unit(operation_of(word), a, b, flags.carry)
+}
+
+// One of a step's three next rows.
+fn chosen(stored: bool, far: bool, step: Step) -> u8
+    ensures { λ r. ⌜ r ≡ cond stored (cond far (step .0) (step .1)) (step .2) ⌝ }
+{
+    let Step(memory, direct, skipped, _) = step;
+    if stored {
+        if far { memory } else { direct }
+    } else {
+        skipped
+    }
+}
+
+// Storing is decided on the flags before the instruction.
+pub fn compute(mut s: Latches, step: Step) -> Latches
+    ensures { λ r. ⌜ ((regs : List ℕ) → stateOf regs r ≡ computed step (stateOf regs s)) ⌝ }
+{
+    let word = s.instruction;
+    let flags = s.flags;
+    let out = unit_of(word, flags, s.a, s.b);
+    let after = flags_after(word, flags, out);
+    let next = chosen(is_stored(word, flags), in_memory(operand_b(word)), step);
+    s.flags = after;
+    s.result = out.result;
+    s.row = next;
+    s
+}

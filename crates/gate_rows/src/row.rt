@@ -1,0 +1,133 @@
+// The work of a row, one function for each kind of work.
+use super::compute::compute;
+use super::latches::Latches;
+use super::table::Step;
+use instruction::memory::load;
+use instruction::memory::store;
+use instruction::memory::wide;
+use instruction::operand::in_memory;
+use instruction::operand::operand_a;
+use instruction::operand::operand_b;
+use instruction::registers::register_word;
+use instruction::registers::set_register;
+use instruction::registers::step_down;
+use instruction::registers::step_pc;
+use instruction::registers::step_up;
+use model::Operand;
+ghost use mathlib.Core.Path.{_≡_};
+ghost use mathlib.Core.List.{List};
+ghost use Prim.Native.Nat.{ℕ};
+ghost use Rattle.model.specs.Gates.{withRow, withInstruction, withAddress, withA, withB};
+ghost use Rattle.gate_rows.specs.Work.{stateOf, preparedBy, Works};
+
+fn moved(mut s: Latches, next: u8) -> Latches
+    ensures { λ r. ⌜ ((regs : List ℕ) → stateOf regs r ≡ withRow next (stateOf regs s)) ⌝ }
+{
+    s.row = next;
+    s
+}
+
+fn latch_instruction(mut s: Latches, x: u32, next: u8) -> Latches
+    ensures { λ r. ⌜ ((regs : List ℕ) → stateOf regs r ≡ withRow next (withInstruction x (stateOf regs s))) ⌝ }
+{
+    s.instruction = x;
+    s.row = next;
+    s
+}
+
+fn latch_address(mut s: Latches, x: u32, next: u8) -> Latches
+    ensures { λ r. ⌜ ((regs : List ℕ) → stateOf regs r ≡ withRow next (withAddress x (stateOf regs s))) ⌝ }
+{
+    s.address = x;
+    s.row = next;
+    s
+}
+
+fn latch_a(mut s: Latches, x: u32, next: u8) -> Latches
+    ensures { λ r. ⌜ ((regs : List ℕ) → stateOf regs r ≡ withRow next (withA x (stateOf regs s))) ⌝ }
+{
+    s.a = x;
+    s.row = next;
+    s
+}
+
+fn latch_b(mut s: Latches, x: u32, next: u8) -> Latches
+    ensures { λ r. ⌜ ((regs : List ℕ) → stateOf regs r ≡ withRow next (withB x (stateOf regs s))) ⌝ }
+{
+    s.b = x;
+    s.row = next;
+    s
+}
+
+// A's register steps down; then its word is the address, or A where that is direct.
+fn prepare_a(mut s: Latches, o: Operand, regs: &mut [u32; 8], step: Step) -> Latches
+    ensures { λ r. ⌜ stateOf (now (regs .exit)) r ≡ preparedBy step o withA (stateOf (now (regs .entry)) s) ⌝ }
+{
+    step_down(o, &mut *regs);
+    let word = register_word(o, &*regs);
+    if in_memory(o) {
+        s.address = word;
+        s.row = step.0;
+        s
+    } else {
+        s.a = word;
+        s.row = step.1;
+        s
+    }
+}
+
+// The same for B.
+fn prepare_b(mut s: Latches, o: Operand, regs: &mut [u32; 8], step: Step) -> Latches
+    ensures { λ r. ⌜ stateOf (now (regs .exit)) r ≡ preparedBy step o withB (stateOf (now (regs .entry)) s) ⌝ }
+{
+    step_down(o, &mut *regs);
+    let word = register_word(o, &*regs);
+    if in_memory(o) {
+        s.address = word;
+        s.row = step.0;
+        s
+    } else {
+        s.b = word;
+        s.row = step.1;
+        s
+    }
+}
+
+// The work of the row that the machine is in, with its step of the table; past the table there is none.
+pub fn work(s: Latches, step: Step, regs: &mut [u32; 8], memory: &mut [u32]) -> Latches
+    ensures { λ r. ⌜ Works step s (now (regs .entry)) (now (memory .entry)) r (now (regs .exit)) (now (memory .exit)) ⌝ }
+{
+    let row = s.row;
+    let word = s.instruction;
+    let next = step.0;
+    match row {
+        0 => latch_address(s, regs[0], next),
+        1 => latch_instruction(s, load(&*memory, wide(s.address)), next),
+        2 => {
+            step_pc(regs);
+            moved(s, next)
+        }
+        3 => prepare_a(s, operand_a(word), regs, step),
+        4 => latch_a(s, load(&*memory, wide(s.address)), next),
+        5 => prepare_b(s, operand_b(word), regs, step),
+        6 => latch_b(s, load(&*memory, wide(s.address)), next),
+        7 => compute(s, step),
+        8 => {
+            set_register(operand_b(word), s.result, regs);
+            moved(s, next)
+        }
+        9 => {
+            store(memory, wide(s.address), s.result);
+            moved(s, next)
+        }
+        10 => {
+            step_up(operand_a(word), regs);
+            moved(s, next)
+        }
+        11 => {
+            step_up(operand_b(word), regs);
+            moved(s, next)
+        }
+        _ => s,
+    }
+}

@@ -1,0 +1,5 @@
+pub mod Turns
+pub mod Worth
+pub mod RowWorth
+pub mod Adders
+pub mod Network

@@ -1,0 +1,157 @@
+-- The unit's network answers as the definition does, at every width of k + 1 bits and with any adder.
+use Prim.Native.Nat.{ℕ, suc, _+_, _-_, _*_, _/_, _%_, _^_, _≤_, _<_}
+use mathlib.Core.Path.{_≡_, refl, sym, ap, _∙_}
+use mathlib.Core.Bool.{Bool, true, false, not, _&&_, _||_}
+use mathlib.Core.List.{List}
+use native.Mathlib.Omega.{arith}
+use native.Mathlib.Nat.{div-div-eq-div-mul, div-add-mod'}
+use lib.ListN.{length, getD}
+use lib.Dec.{eqb}
+use Rattle.arithmetic.specs.declared.AluOut.{AluOut}
+use Rattle.arithmetic.specs.Words.{asNumber}
+use Rattle.arithmetic.specs.Alu.{plainOf, sumOf, differenceOf, halvedOf, answers, aluAt, aluOf}
+use Rattle.gates.specs.declared.control.Lines.{Lines}
+use Rattle.gates.specs.Gates.{value, bitsOf, rippleSum, rippleCarry, codeOf, linesOf, firstRow, secondRow, carryOut, overflowOf}
+use Rattle.arithmetic.proofs.Sums.{out-eq, bit-le}
+use Rattle.gates.proofs.Turns.{length-bits}
+use Rattle.gates.proofs.Worth.{one, xor-false, xor-true, odd-bit, value-bits, value-below, value-top, value-low}
+use Rattle.gates.proofs.RowWorth.{pick-first, pick-second, first-length, table-value, none-digits, a-digits, b-digits, and-digits, or-digits, xor-digits, not-value, shift-value, second-length, taken, second-value, second-turned}
+use Rattle.gates.proofs.Adders.{Adds, ripple-adds, flagged, adder-sum, adder-difference, none-and, and-none}
+
+-- a shift puts the bit that it drops into the carry
+abbrev dropped : Bool → Bool → AluOut → AluOut
+dropped shift low o = record { result = o .result; carry = (shift && low) || o .carry; overflow = o .overflow }
+
+-- what the unit gives where s and d are the adder's sum and carry
+abbrev pub outOf : ℕ → Lines → List Bool → List Bool → List Bool → Bool → AluOut
+outOf k l a b s d = dropped (l .shift) (getD a 0 false) (flagged k (firstRow l a b) (secondRow l a) s d (l .turn))
+
+module _ (k : ℕ) (l : Lines) (a b s : List Bool) (d : Bool) (la : length a ≡ suc k) (lb : length b ≡ suc k)
+    (h : Adds (firstRow l a b) (secondRow l a) (l .carry) s d) where
+  same : length b ≡ length a
+  same = lb ∙ sym la
+
+  lp : length (firstRow l a b) ≡ suc k
+  lp = first-length l a b same ∙ la
+
+  lq : length (secondRow l a) ≡ suc k
+  lq = second-length l a ∙ la
+
+  sum-of : l .turn ≡ false → flagged k (firstRow l a b) (secondRow l a) s d (l .turn) ≡ sumOf k (value (firstRow l a b)) (taken (l .second) (value a)) (l .carry)
+  sum-of t =
+      ap (λ (u : Bool). flagged k (firstRow l a b) (secondRow l a) s d u) t ∙ adder-sum k (firstRow l a b) (secondRow l a) s (l .carry) d lp lq h
+      ∙ ap (λ (y : ℕ). sumOf k (value (firstRow l a b)) y (l .carry)) (second-value l t a)
+
+  -- a sum, a difference, or nothing added to the first row, by what that is worth
+  sums : {x : ℕ} {f : Bool} → l .shift ≡ false → l .turn ≡ false → l .carry ≡ f → value (firstRow l a b) ≡ x → outOf k l a b s d ≡ sumOf k x (taken (l .second) (value a)) f
+  sums e t g v = (λ i. dropped (e i) (getD a 0 false) (sum-of t i)) ∙ (λ i. sumOf k (v i) (taken (l .second) (value a)) (g i))
+
+  differences : {x : ℕ} (c : Bool) → l .shift ≡ false → l .turn ≡ true → l .carry ≡ not c → value (firstRow l a b) ≡ x
+      → outOf k l a b s d ≡ differenceOf k x (taken (l .second) (value a)) c
+  differences c e t g v =
+      (λ i. dropped (e i) (getD a 0 false) (flagged k (firstRow l a b) (secondRow l a) s d (t i)))
+      ∙ adder-difference k (firstRow l a b) (secondRow l a) s (l .carry) d lp lq h (taken (l .second) (value a)) c g (second-turned l t a ∙ ap (λ (n : ℕ). 2 ^ n) la)
+      ∙ ap (λ (x : ℕ). differenceOf k x (taken (l .second) (value a)) c) v
+
+  plain : {x : ℕ} → l .turn ≡ false → l .second ≡ false → l .carry ≡ false → value (firstRow l a b) ≡ x
+      → outOf k l a b s d ≡ dropped (l .shift) (getD a 0 false) (plainOf x)
+  plain t e g v =
+      ap (dropped (l .shift) (getD a 0 false))
+      (sum-of t ∙ (λ i. sumOf k (value (firstRow l a b)) (taken (e i) (value a)) (g i)) ∙ and-none k (value (firstRow l a b)) (value-below (firstRow l a b) (suc k) lp) ∙ ap plainOf v)
+
+  complemented : l .shift ≡ false → l .t00 ≡ true → l .t01 ≡ true → l .t10 ≡ false → l .t11 ≡ false → value (firstRow l a b) ≡ 2 ^ suc k - 1 - value a
+  complemented e p q r u = omega (arith, not-value l e p q r u a b same ∙ ap (λ (n : ℕ). 2 ^ n) la)
+
+  halves : {t : Bool} → l .shift ≡ true → l .turn ≡ false → l .second ≡ false → l .carry ≡ false → l .top ≡ t → outOf k l a b s d ≡ halvedOf k t (value a)
+  unfolding halvedOf
+  halves e t z g p =
+      plain t z g (shift-value k l a b e la lb)
+      ∙ (λ i. record {
+        result = value a / 2 + asNumber (p i) * 2 ^ k;
+        carry = ((λ j. (e j && getD a 0 false) || false) ∙ or-false (getD a 0 false) ∙ sym (value-low a)) i;
+        overflow = false;
+      })
+    where
+      or-false : (x : Bool) → (x || false) ≡ x
+      or-false = one _ refl refl
+
+-- ---- the sixteen operations
+
+module _ (k : ℕ) (a b s : List Bool) (d c : Bool) (la : length a ≡ suc k) (lb : length b ≡ suc k) where
+  eq : length b ≡ length a
+  eq = lb ∙ sym la
+
+  pub unit-right : (o0 o1 o2 o3 : Bool) → let l = linesOf o0 o1 o2 o3 c (getD a k false) in Adds (firstRow l a b) (secondRow l a) (l .carry) s d
+      → outOf k l a b s d ≡ aluAt k (codeOf o0 o1 o2 o3) (value a) (value b) c
+  unfolding aluAt answers
+  unit-right false false false false h = sums k _ a b s d la lb h refl refl refl (table-value _ _ refl none-digits a b eq) ∙ none-and k (value a) (value-below a (suc k) la)
+  unit-right true false false false h = sums k _ a b s d la lb h refl refl refl (table-value _ _ refl a-digits a b eq)
+  unit-right false true false false h = sums k _ a b s d la lb h refl refl (xor-false c) (table-value _ _ refl b-digits a b eq)
+  unit-right true true false false h = sums k _ a b s d la lb h refl refl refl (table-value _ _ refl b-digits a b eq)
+  unit-right false false true false h = differences k _ a b s d la lb h false refl refl refl (table-value _ _ refl none-digits a b eq)
+  unit-right true false true false h = differences k _ a b s d la lb h true refl refl refl (table-value _ _ refl a-digits a b eq)
+  unit-right false true true false h = differences k _ a b s d la lb h c refl refl (xor-true c) (table-value _ _ refl b-digits a b eq)
+  unit-right true true true false h = differences k _ a b s d la lb h false refl refl refl (table-value _ _ refl b-digits a b eq)
+  unit-right false false false true h = halves k _ a b s d la lb h refl refl refl refl (pick-first c (getD a k false))
+  unit-right true false false true h = halves k _ a b s d la lb h refl refl refl refl (pick-second c (getD a k false) ∙ value-top k a la)
+  unit-right false true false true h = halves k _ a b s d la lb h refl refl refl refl refl
+  unit-right true true false true h = plain k _ a b s d la lb h refl refl refl (table-value _ _ refl xor-digits a b eq)
+  unit-right false false true true h = plain k _ a b s d la lb h refl refl refl (table-value _ _ refl or-digits a b eq)
+  unit-right true false true true h = plain k _ a b s d la lb h refl refl refl (table-value _ _ refl and-digits a b eq)
+  unit-right false true true true h = plain k _ a b s d la lb h refl refl refl (complemented k _ a b s d la lb h refl refl refl refl refl)
+  unit-right true true true true h = plain k _ a b s d la lb h refl refl refl (table-value _ _ refl a-digits a b eq)
+
+-- with the ripple adder, so for all widths together
+pub ripple-right : (k : ℕ) (a b : List Bool) (c : Bool) → length a ≡ suc k → length b ≡ suc k → (o0 o1 o2 o3 : Bool)
+    → let l = linesOf o0 o1 o2 o3 c (getD a k false) in
+    outOf k l a b (rippleSum (firstRow l a b) (secondRow l a) (l .carry)) (rippleCarry (firstRow l a b) (secondRow l a) (l .carry)) ≡ aluAt k (codeOf o0 o1 o2 o3) (value a) (value b) c
+ripple-right k a b c la lb o0 o1 o2 o3 =
+    unit-right k a b _ _ c la lb o0 o1 o2 o3 (ripple-adds _ _ _ (second-length _ a ∙ sym (first-length _ a b (lb ∙ sym la))))
+
+-- ---- words in, a word out
+
+-- the four lines of a number are its low bits
+lines : (n : ℕ) → codeOf (eqb (n % 2) 1) (eqb (n / 2 % 2) 1) (eqb (n / 4 % 2) 1) (eqb (n / 8 % 2) 1) ≡ n % 16
+lines n =
+    four n (n / 2) (n / 4) (n / 8) (n / 8 / 2) _ _ _ _ (bit-le (eqb (n % 2) 1)) (bit-le (eqb (n / 2 % 2) 1)) (bit-le (eqb (n / 4 % 2) 1)) (bit-le (eqb (n / 8 % 2) 1))
+    (back n) (back (n / 2) ∙ ap (λ (x : ℕ). x * 2 + asNumber (eqb (n / 2 % 2) 1)) (div-div-eq-div-mul n 2 2))
+    (back (n / 4) ∙ ap (λ (x : ℕ). x * 2 + asNumber (eqb (n / 4 % 2) 1)) (div-div-eq-div-mul n 4 2)) (back (n / 8))
+  where
+    four : (n h1 h2 h3 q r0 r1 r2 r3 : ℕ) → r0 ≤ 1 → r1 ≤ 1 → r2 ≤ 1 → r3 ≤ 1 → n ≡ h1 * 2 + r0 → h1 ≡ h2 * 2 + r1 → h2 ≡ h3 * 2 + r2 → h3 ≡ q * 2 + r3
+        → r0 + 2 * r1 + 4 * r2 + 8 * r3 ≡ n % 16
+    four n h1 h2 h3 q r0 r1 r2 r3 b0 b1 b2 b3 e0 e1 e2 e3 = omega arith
+
+    back : (x : ℕ) → x ≡ x / 2 * 2 + asNumber (eqb (x % 2) 1)
+    back x = sym (div-add-mod' x 2) ∙ ap (λ (r : ℕ). x / 2 * 2 + r) (sym (odd-bit x))
+
+-- the control lines by the operation's number
+abbrev pub steered : ℕ → Bool → Bool → Lines
+steered n c sign = linesOf (eqb (n % 2) 1) (eqb (n / 2 % 2) 1) (eqb (n / 4 % 2) 1) (eqb (n / 8 % 2) 1) c sign
+
+-- the values on the wires, each as the function that makes it ensures
+pub gate-by : (n a b r : ℕ) (c sign low d : Bool) (l : Lines) (p q s : List Bool) → a < 2 ^ 32 → b < 2 ^ 32
+    → sign ≡ getD (bitsOf 32 a) 31 false → l ≡ steered n c sign
+    → (p ≡ firstRow l (bitsOf 32 a) (bitsOf 32 b)) × (q ≡ secondRow l (bitsOf 32 a)) → (d ≡ rippleCarry p q (l .carry)) × (s ≡ rippleSum p q (l .carry))
+    → r ≡ value s → low ≡ getD (bitsOf 32 a) 0 false
+    → _≡_ {A = AluOut} (record { result = r; carry = carryOut l low d; overflow = overflowOf (getD p 31 false) (getD q 31 false) (getD s 31 false) }) (aluOf n a b c)
+unfolding aluOf
+gate-by n a b r c sign low d l p q s ha hb hsign hl (hp, hq) (hd, hs) hr hlow =
+    out-eq hr (ap (λ (u : Bool). carryOut l u d) hlow) (λ i. overflowOf (getD (hp i) 31 false) (getD (hq i) 31 false) (getD s 31 false))
+    ∙ (λ i. outOf 31 (el i) x y (sum i) (out i))
+    ∙ ripple-right 31 x y c (length-bits 32 a) (length-bits 32 b) (eqb (n % 2) 1) (eqb (n / 2 % 2) 1) (eqb (n / 4 % 2) 1) (eqb (n / 8 % 2) 1)
+    ∙ (λ i. aluAt 31 (lines n i) (value-bits 32 a ha i) (value-bits 32 b hb i) c)
+  where
+    x : List Bool
+    x = bitsOf 32 a
+
+    y : List Bool
+    y = bitsOf 32 b
+
+    el : l ≡ steered n c (getD x 31 false)
+    el = hl ∙ ap (steered n c) hsign
+
+    sum : s ≡ rippleSum (firstRow (el 1) x y) (secondRow (el 1) x) (el 1 .carry)
+    sum = hs ∙ (λ i. rippleSum (hp i) (hq i) (l .carry)) ∙ (λ i. rippleSum (firstRow (el i) x y) (secondRow (el i) x) (el i .carry))
+
+    out : d ≡ rippleCarry (firstRow (el 1) x y) (secondRow (el 1) x) (el 1 .carry)
+    out = hd ∙ (λ i. rippleCarry (hp i) (hq i) (l .carry)) ∙ (λ i. rippleCarry (firstRow (el i) x y) (secondRow (el i) x) (el i .carry))

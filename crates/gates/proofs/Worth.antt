@@ -1,0 +1,131 @@
+-- What rows of bits are worth, at every width: each law by one induction over the row.
+use Prim.Native.Nat.{ℕ, zero, suc, _+_, _-_, _*_, _/_, _%_, _^_, _≤_, _<_}
+use mathlib.Core.Path.{_≡_, refl, sym, ap, _∙_, subst}
+use mathlib.Core.Bool.{Bool, true, false, not}
+use mathlib.Core.List.{List, [], _∷_, _++_}
+use native.Mathlib.Omega.{arith}
+use native.Mathlib.Nat.{pow-suc, mul-comm, mul-assoc, le-of-eq, le-trans, sub-le, lt-of-lt-of-le}
+use lib.ListN.{length, drop, getD, length-drop, drop-of-length-le}
+use lib.Seq.{drop-cons}
+use lib.Pow.{pow-mono}
+use lib.Dec.{eqb}
+use borrow.Author.Tests.{eqb-true, eqb-false}
+use Rattle.arithmetic.specs.Words.{asNumber, topOf, _⊕_}
+use Rattle.gates.specs.Gates.{value, bitsOf, fullSum, fullCarry, rippleSum, rippleCarry}
+use Rattle.arithmetic.proofs.Integers.{same-leb}
+use Rattle.arithmetic.proofs.Sums.{bit-le}
+
+-- what is shown of both bits, of two, of three
+pub one : (P : Bool → Type 0) → P true → P false → (x : Bool) → P x
+one P p q true = p
+one P p q false = q
+
+pub two : (P : Bool → Bool → Type 0) → P true true → P true false → P false true → P false false → (x y : Bool) → P x y
+two P p q r s true = one (P true) p q
+two P p q r s false = one (P false) r s
+
+pub three : (P : Bool → Bool → Bool → Type 0) → P true true true → P true true false → P true false true → P true false false
+    → P false true true → P false true false → P false false true → P false false false → (x y z : Bool) → P x y z
+three P p q r s t u v w true = two (P true) p q r s
+three P p q r s t u v w false = two (P false) t u v w
+
+pub xor-false : (t : Bool) → (t ⊕ false) ≡ t
+xor-false = one _ refl refl
+
+pub xor-true : (t : Bool) → (t ⊕ true) ≡ not t
+xor-true = one _ refl refl
+
+pub suc-eq : {m n : ℕ} → suc m ≡ suc n → m ≡ n
+suc-eq {m} {n} e = omega arith
+
+-- one more place doubles what a bit is worth
+double : (b n : ℕ) → b * 2 ^ suc n ≡ 2 * (b * 2 ^ n)
+double b n = ap (λ (x : ℕ). b * x) (pow-suc 2 n) ∙ sym (mul-assoc b (2 ^ n) 2) ∙ mul-comm (b * 2 ^ n) 2
+
+-- ---- the ripple adder, for all widths together
+
+full-value : (a b c : Bool) → asNumber (fullSum a b c) + 2 * asNumber (fullCarry a b c) ≡ asNumber a + asNumber b + asNumber c
+full-value = three _ refl refl refl refl refl refl refl refl
+
+pub ripple-value : (a b : List Bool) (c : Bool) → length b ≡ length a
+    → value (rippleSum a b c) + asNumber (rippleCarry a b c) * 2 ^ length a ≡ value a + value b + asNumber c
+unfolding value rippleSum rippleCarry
+ripple-value [] [] c e = omega arith
+ripple-value [] (y ∷ b) c e = absurd (let h : suc (length b) ≡ 0 = e in omega arith)
+ripple-value (x ∷ a) [] c e = absurd (let h : 0 ≡ suc (length a) = e in omega arith)
+ripple-value (x ∷ a) (y ∷ b) c e =
+    let ih = ripple-value a b (fullCarry x y c) (suc-eq e) in
+    let f = full-value x y c in
+    let d = double (asNumber (rippleCarry a b (fullCarry x y c))) (length a) in
+    omega arith
+
+pub ripple-length : (a b : List Bool) (c : Bool) → length b ≡ length a → length (rippleSum a b c) ≡ length a
+unfolding rippleSum
+ripple-length [] b c e = refl
+ripple-length (x ∷ a) [] c e = e
+ripple-length (x ∷ a) (y ∷ b) c e = ap suc (ripple-length a b (fullCarry x y c) (suc-eq e))
+
+-- ---- bounds, the top bit, the lowest bit
+
+pub value-lt : (l : List Bool) → value l < 2 ^ length l
+unfolding value
+value-lt [] = omega arith
+value-lt (b ∷ l) = omega (arith, value-lt l, bit-le b, pow-suc 2 (length l))
+
+pub value-below : (l : List Bool) (n : ℕ) → length l ≡ n → value l < 2 ^ n
+value-below l n e = subst (λ (m : ℕ). value l < 2 ^ m) e (value-lt l)
+
+pub value-top : (k : ℕ) (l : List Bool) → length l ≡ suc k → getD l k false ≡ topOf k (value l)
+unfolding value
+value-top k [] e = absurd (let h : 0 ≡ suc k = e in omega arith)
+value-top zero (true ∷ []) e = refl
+value-top zero (false ∷ []) e = refl
+value-top zero (b ∷ x ∷ l) e = absurd (let h : suc (suc (length l)) ≡ 1 = e in omega arith)
+value-top (suc k) (b ∷ l) e =
+    value-top k l (suc-eq e)
+    ∙ same-leb (2 ^ k) (value l) (2 ^ suc k) (asNumber b + 2 * value l) (λ h. omega (arith, bit-le b, pow-suc 2 k)) (λ h. omega (arith, bit-le b, pow-suc 2 k))
+
+pub value-low : (l : List Bool) → eqb (value l % 2) 1 ≡ getD l 0 false
+unfolding value
+value-low [] = refl
+value-low (true ∷ l) = ap (λ (n : ℕ). eqb n 1) (let h : (1 + 2 * value l) % 2 ≡ 1 = omega arith in h)
+value-low (false ∷ l) = ap (λ (n : ℕ). eqb n 1) (let h : (0 + 2 * value l) % 2 ≡ 0 = omega arith in h)
+
+-- ---- words to bits and back
+
+pub odd-bit : (x : ℕ) → asNumber (eqb (x % 2) 1) ≡ x % 2
+odd-bit x = go (eqb (x % 2) 1) refl
+  where
+    go : (t : Bool) → eqb (x % 2) 1 ≡ t → asNumber t ≡ x % 2
+    go true e = sym (eqb-true (x % 2) 1 e)
+    go false e = let n : (x % 2 ≡ 1 → ⊥) = eqb-false (x % 2) 1 e in omega arith
+
+pub value-bits : (n x : ℕ) → x < 2 ^ n → value (bitsOf n x) ≡ x
+unfolding value bitsOf
+value-bits zero x h = omega arith
+value-bits (suc n) x h = let l : x / 2 < 2 ^ n = omega (arith, pow-suc 2 n) in omega (arith, odd-bit x, value-bits n (x / 2) l)
+
+-- one more bit above
+pub value-snoc : (l : List Bool) (t : Bool) → value (l ++ (t ∷ [])) ≡ value l + asNumber t * 2 ^ length l
+unfolding value
+value-snoc [] t = omega arith
+value-snoc (b ∷ l) t = omega (arith, value-snoc l t, double (asNumber t) (length l))
+
+-- ---- a row read from the top down
+
+pub value-end : (l : List Bool) (n : ℕ) → length l ≡ n → value (drop n l) ≡ 0
+unfolding value
+value-end l n e = ap value (drop-of-length-le l (le-of-eq e))
+
+-- one more bit below those that were read; the whole stays within the width
+pub value-drop : (w : ℕ) (l : List Bool) (i : ℕ) → length l ≤ w → 0 < i → i ≤ length l
+    → (value (drop (i - 1) l) ≡ asNumber (getD l (i - 1) false) + 2 * value (drop i l)) × (value (drop (i - 1) l) < 2 ^ w)
+unfolding value
+value-drop w l zero n h g = absurd (let k : 0 < 0 = h in omega arith)
+value-drop w l (suc i) n h g = (
+  ap (λ (n : ℕ). value (drop n l)) back ∙ ap value (drop-cons l i false g) ∙ ap (λ (n : ℕ). asNumber (getD l n false) + 2 * value (drop (suc i) l)) (sym back),
+  lt-of-lt-of-le (value-lt (drop (suc i - 1) l)) (pow-mono (subst (λ (m : ℕ). m ≤ w) (sym (length-drop (suc i - 1) l)) (le-trans (sub-le (length l) (suc i - 1)) n))),
+)
+  where
+    back : suc i - 1 ≡ i
+    back = omega arith

@@ -1,0 +1,78 @@
+use native.Mathlib.Omega.{arith}
+use borrow.Author.Needs.{needs}
+use Rattle.gates.proofs.Network.{gate-by}
+use Rattle.gates.proofs.gate_unit.Statement.{statement}
+use Rattle.gates.proofs.gate_unit.Tie as tie
+
+bit-requires : tie.Need-bit-requires
+bit-requires c κs = search needs
+
+control-requires : tie.Need-control-requires
+control-requires c κs = search needs
+
+slice-aggregate-rows : tie.Need-slice-aggregate-rows
+slice-aggregate-rows c = search needs
+
+slice-aggregate-rows-2 : tie.Need-slice-aggregate-rows-2
+slice-aggregate-rows-2 c = search needs
+
+rows-requires : tie.Need-rows-requires
+rows-requires c κs = search needs
+
+slice-aggregate-ripple : tie.Need-slice-aggregate-ripple
+slice-aggregate-ripple c = search needs
+
+slice-aggregate-ripple-2 : tie.Need-slice-aggregate-ripple-2
+slice-aggregate-ripple-2 c = search needs
+
+slice-aggregate-ripple-3 : tie.Need-slice-aggregate-ripple-3
+slice-aggregate-ripple-3 c = search needs
+
+ripple-requires : tie.Need-ripple-requires
+ripple-requires c κs = search needs
+
+array-read-top : tie.Need-array-read-top
+array-read-top c = search needs
+
+slice-aggregate-from-bits : tie.Need-slice-aggregate-from-bits
+slice-aggregate-from-bits c = search needs
+
+from-bits-requires : tie.Need-from-bits-requires
+from-bits-requires c κs = search needs
+
+bit-requires-2 : tie.Need-bit-requires-2
+bit-requires-2 c κs = search needs
+
+array-read-t39 : tie.Need-array-read-t39
+array-read-t39 c = search needs
+
+array-read-t43 : tie.Need-array-read-t43
+array-read-t43 c = search needs
+
+returns : tie.Need-returns
+returns c =
+    let r = c .before .before .before .before .before .before .before .before .before .before .before .before .before .before .before .before .before .args in
+    gate-by (r .operation) (r .a) (r .b) (c .before .before .before .from-bits .result) (r .carry) _ _ _ (c .before .before .before .before .before .before .before .before .before .before .before .before .before .before .before .control .result) _ _ _
+    (omega arith) (omega arith) (c .before .before .before .before .before .before .before .before .before .before .before .before .before .before .before .before .bit .ensures) (c .before .before .before .before .before .before .before .before .before .before .before .before .before .before .before .control .ensures)
+    (c .before .before .before .before .before .before .before .before .before .before .before .before .rows .ensures) (c .before .before .before .before .before .before .ripple .ensures) (c .before .before .before .from-bits .ensures) (c .before .before .bit2 .ensures)
+
+pub gate-unit-spec : {M : Type 1} → statement M
+gate-unit-spec =
+    tie.close
+    (tie.spec
+    bit-requires
+    control-requires
+    slice-aggregate-rows
+    slice-aggregate-rows-2
+    rows-requires
+    slice-aggregate-ripple
+    slice-aggregate-ripple-2
+    slice-aggregate-ripple-3
+    ripple-requires
+    array-read-top
+    slice-aggregate-from-bits
+    from-bits-requires
+    bit-requires-2
+    array-read-t39
+    array-read-t43
+    returns)

@@ -1,0 +1,48 @@
+// Words and single bits.
+ghost use mathlib.Core.Path.{_≡_};
+ghost use mathlib.Core.Bool.{false};
+ghost use Prim.Native.Nat.{_+_, _<_, _≤_};
+ghost use lib.ListN.{length, getD};
+ghost use Rattle.arithmetic.specs.Words.{asNumber};
+ghost use Rattle.gates.specs.Gates.{value, bitsOf};
+
+// The bit of a word at a place, the lowest at 0.
+pub fn bit(word: u32, place: usize) -> bool
+    requires { ⌜ place < 32 ⌝ }
+    ensures { λ r. ⌜ r ≡ getD (bitsOf 32 word) place false ⌝ }
+{
+    (word >> place) % 2 == 1
+}
+
+// The bit one place up; above the top place stands the one given.
+pub fn above(word: u32, place: usize, top: bool) -> bool
+    requires { ⌜ place < 32 ⌝ }
+    ensures { λ r. ⌜ r ≡ getD (bitsOf 32 word) (place + 1) top ⌝ }
+{
+    if place < 31 {
+        bit(word, place + 1)
+    } else {
+        top
+    }
+}
+
+// A bit as a word.
+fn digit(b: bool) -> u32
+    ensures { λ r. ⌜ r ≡ asNumber b ⌝ }
+{
+    if b { 1 } else { 0 }
+}
+
+// The word of a row of at most 32 bits.
+pub fn from_bits(bits: &[bool]) -> u32
+    requires { ⌜ length (now bits) ≤ 32 ⌝ }
+    ensures { λ r. ⌜ r ≡ value (now (bits .entry)) ⌝ }
+{
+    let mut r: u32 = 0;
+    let mut i = bits.len();
+    while 0 < i {
+        i -= 1;
+        r = 2 * r + digit(bits[i]);
+    }
+    r
+}

@@ -1,0 +1,135 @@
+-- Whatever is left of an image once bytes are missing at its end is refused with 8: the proof of the law of `Laws`.
+-- Assumes nothing.
+use Prim.Native.Nat.{ℕ, zero, suc, _+_, _*_, _-_, _^_, _≤_, _<_, min}
+use mathlib.Core.Path.{_≡_, refl, sym, ap, subst, _∙_}
+use mathlib.Core.Bool.{Bool, true, false}
+use mathlib.Core.List.{List, [], _∷_, _++_, append-assoc}
+use native.Mathlib.Decide.{decLt}
+use native.Mathlib.Omega.{arith}
+use lib.Dec.{leb, lit<}
+use lib.ListN.{length, take, drop, length-append, length-take}
+use lib.Seq.{take-append-add}
+use borrow.Author.Tests.{le-leb, lt-leb, eq-eqb}
+use Rattle.model.specs.declared.Machine.{Machine}
+use Rattle.model.specs.declared.Refusal.{Refusal}
+use Rattle.model.specs.declared.Refusal.the-variants.{CutImage, WrongVersion, BadFlag}
+use Rattle.model.specs.declared.Verdict.{Verdict}
+use Rattle.model.specs.declared.Verdict.the-variants.{Accepted, Refused}
+use Rattle.model.specs.Refusals.{demand, _then_, mostWords}
+use Rattle.image.specs.Bytes.{bytesOf, number, wordBytes, wordsIn, Below}
+use Rattle.image.specs.Format.{Field, fieldBytes, isVersion, versionField, registersField, flagsField, countField, wordsField, endField, wordsPerField, fieldsFor, memoryFields, flagBytes, imageOf}
+use Rattle.image.specs.Reading.{Outcome, refused, _▷_, headerVerdict, fieldVerdict, readField, readMemory, readOf}
+use Rattle.image.proofs.BytesLaws.{no-elements, length-bytes, number-bytes, below-drop, length-word-bytes}
+use Rattle.image.proofs.FieldLaws.{length-field, field-goes}
+use Rattle.image.proofs.MemoryLaws.{fields-enough, length-first-bytes, length-more, first-and-more}
+use Rattle.image.proofs.Machines.{flags-fit}
+use Rattle.image.proofs.Stages.{endFrom}
+
+-- ---- a field that is cut, or after which something is
+
+cut-in-value : (t₀ t₁ t₂ t₃ : Bool) (r₁ r₂ : Refusal) (v : Verdict) → t₀ ≡ true → t₁ ≡ true → t₂ ≡ true → t₃ ≡ false
+    → ((demand t₀ CutImage then demand t₁ r₁ then demand t₂ r₂ then demand t₃ CutImage) then v) ≡ Refused CutImage
+cut-in-value t₀ t₁ t₂ t₃ r₁ r₂ v p q r s = rw (p, q, r, s)
+
+module _ (f : Field) (value rest : List ℕ) (next : List ℕ → List ℕ → Outcome)
+    (long : length value ≡ f .due) (short : f .due < 65536) (follows : f .rule value ≡ Accepted) where
+  header-cut : (k : ℕ) → k < 3 → fieldVerdict f (take k (fieldBytes f value ++ rest)) ≡ Refused CutImage
+  unfolding fieldVerdict headerVerdict fieldBytes bytesOf
+  header-cut zero h = refl
+  header-cut (suc zero) h = refl
+  header-cut (suc (suc zero)) h = refl
+  header-cut (suc (suc (suc k))) h = absurd (omega arith)
+
+  value-cut : (j : ℕ) → j < f .due → fieldVerdict f (take (suc (suc (suc j))) (fieldBytes f value ++ rest)) ≡ Refused CutImage
+  unfolding fieldVerdict headerVerdict fieldBytes bytesOf
+  value-cut j h =
+      let part : List ℕ = take j (value ++ rest) in
+      let l : length part ≡ min j (length (value ++ rest)) = length-take j (value ++ rest) in
+      let h₀ : 3 ≤ suc (suc (suc (length part))) = omega arith in
+      let h₁ : suc (suc (suc (length part))) < 3 + f .due = omega arith in
+      cut-in-value _ _ _ _ _ _ _
+      (le-leb _ _ h₀)
+      (eq-eqb (f .tag) (f .tag) refl)
+      (eq-eqb _ _ (number-bytes 2 (length value) (omega arith) ∙ long))
+      (lt-leb _ _ h₁)
+
+  pub field-cut : (k : ℕ) → k < length (fieldBytes f value ++ rest) → ((j : ℕ) → j < length rest → next value (take j rest) ≡ refused CutImage)
+      → readField f (take k (fieldBytes f value ++ rest)) next ≡ refused CutImage
+  unfolding readField
+  field-cut k h later = go (decLt k 3) (decLt k (3 + f .due))
+    where
+      all : List ℕ
+      all = fieldBytes f value ++ rest
+
+      missing : fieldVerdict f (take k all) ≡ Refused CutImage → readField f (take k all) next ≡ refused CutImage
+      missing e = ap (λ (v : Verdict). v ▷ next (take (f .due) (drop 3 (take k all))) (drop (3 + f .due) (take k all))) e
+
+      go : Dec (k < 3) → Dec (k < 3 + f .due) → readField f (take k all) next ≡ refused CutImage
+      go (yes p) d = missing (header-cut k p)
+      go (no p) (yes q) =
+          let e : suc (suc (suc (k - 3))) ≡ k = omega arith in
+          missing (ap (λ (n : ℕ). fieldVerdict f (take n all)) (sym e) ∙ value-cut (k - 3) (omega arith))
+      go (no p) (no q) =
+          let j : ℕ = k - (3 + f .due) in
+          let e : k ≡ length (fieldBytes f value) + j = omega (arith, length-field f value) in
+          let h′ : j < length rest = omega (arith, length-field f value, length-append (fieldBytes f value) rest) in
+          field-goes f value (take j rest) long short (take k all) next Accepted Accepted (refused CutImage)
+          (ap (λ (n : ℕ). take n all) e ∙ take-append-add (fieldBytes f value) rest j) follows (later j h′)
+
+end-cut : (next : List ℕ → List ℕ → Outcome) (k : ℕ) → k < length (fieldBytes endField []) → readField endField (take k (fieldBytes endField [])) next ≡ refused CutImage
+unfolding fieldBytes bytesOf
+end-cut next k h = field-cut endField [] [] next refl (lit< tt) refl k h (λ j p. absurd (omega arith))
+
+-- ---- the fields of words
+
+memory-cut : (n words : ℕ) (memory rest : List ℕ) (next : List ℕ → List ℕ → Outcome) → length memory ≡ words → words ≤ 1024 * n → Below (2 ^ 32) memory
+    → ((j : ℕ) → j < length rest → next memory (take j rest) ≡ refused CutImage)
+    → (k : ℕ) → k < length (memoryFields n memory ++ rest) → readMemory n words (take k (memoryFields n memory ++ rest)) next ≡ refused CutImage
+unfolding readMemory memoryFields fieldBytes
+memory-cut zero words memory rest next l h b later k q = ap (λ (m : List ℕ). next m (take k rest)) (sym (no-elements memory (omega arith))) ∙ later k q
+memory-cut (suc n) words memory rest next l h b later k q =
+    let value : List ℕ = wordBytes (take wordsPerField memory) in
+    let more : List ℕ = drop wordsPerField memory in
+    let count : ℕ = min wordsPerField words in
+    let a : (fieldBytes (wordsField count) value ++ memoryFields n more) ++ rest ≡ fieldBytes (wordsField count) value ++ (memoryFields n more ++ rest) =
+    append-assoc (fieldBytes (wordsField count) value) (memoryFields n more) rest in
+    ap (λ (x : List ℕ). readMemory (suc n) words (take k x) next) a
+    ∙ field-cut (wordsField count) value (memoryFields n more ++ rest) _ (length-first-bytes words memory l) (omega arith) refl k (subst (λ (x : List ℕ). k < length x) a q)
+    (memory-cut n (words - wordsPerField) more rest (λ (later end : List ℕ). next (wordsIn count value ++ later) end)
+    (length-more words memory l) (omega arith) (below-drop _ wordsPerField memory b)
+    (λ j p. ap (λ (x : List ℕ). next x (take j rest)) (first-and-more words memory l b) ∙ later j p))
+
+-- ---- the image
+
+module _ (version : ℕ) (machine : Machine) (memory : List ℕ) (room : ℕ)
+    (known : isVersion version ≡ true) (eight : length (machine .regs) ≡ 8)
+    (some : 1 ≤ length memory) (most : length memory ≤ mostWords) (memory-below : Below (2 ^ 32) memory) (fits : length memory ≤ room) where
+  count-rule : countField room .rule (bytesOf 4 (length memory)) ≡ Accepted
+  count-rule =
+      let M : ℕ = number (bytesOf 4 (length memory)) in
+      let e : M ≡ length memory = number-bytes 4 (length memory) (omega arith) in
+      let a : leb 1 M ≡ true = le-leb 1 M (omega arith) in
+      let b : leb M mostWords ≡ true = le-leb M mostWords (omega arith) in
+      let c : leb M room ≡ true = le-leb M room (omega arith) in
+      rw (a, b, c)
+
+  version-rule : versionField .rule (version ∷ []) ≡ Accepted
+  unfolding number
+  version-rule =
+      let e : version + 0 ≡ version = omega arith in
+      ap (λ (v : ℕ). demand (isVersion v) WrongVersion) e ∙ ap (λ (t : Bool). demand t WrongVersion) known
+
+  pub cut : (k : ℕ) → k < length (imageOf version machine memory) → readOf (take k (imageOf version machine memory)) room ≡ refused CutImage
+  unfolding readOf imageOf fieldBytes
+  cut k h =
+      let lr : length (wordBytes (machine .regs)) ≡ 32 = length-word-bytes (machine .regs) ∙ ap (λ (n : ℕ). 4 * n) eight in
+      let count : List ℕ = bytesOf 4 (length memory) in
+      let eM : number count ≡ length memory = number-bytes 4 (length memory) (omega arith) in
+      let last : List ℕ → List ℕ → Outcome = endFrom room (version ∷ []) (wordBytes (machine .regs)) (flagBytes (machine .flags)) in
+      field-cut versionField (version ∷ []) _ _ refl (lit< tt) version-rule k h λ k₁ h₁.
+      field-cut registersField (wordBytes (machine .regs)) _ _ lr (lit< tt) refl k₁ h₁ λ k₂ h₂.
+      field-cut flagsField (flagBytes (machine .flags)) _ _ refl (lit< tt) (ap (λ (t : Bool). demand t BadFlag) (flags-fit (machine .flags))) k₂ h₂ λ k₃ h₃.
+      field-cut (countField room) count _ _ (length-bytes 4 (length memory)) (lit< tt) count-rule k₃ h₃ λ k₄ h₄.
+      ap (λ (n : ℕ). readMemory (fieldsFor n) n (take k₄ (memoryFields (fieldsFor (length memory)) memory ++ fieldBytes endField [])) last) eM
+      ∙ memory-cut (fieldsFor (length memory)) (length memory) memory (fieldBytes endField []) last refl (fields-enough (length memory)) memory-below
+      (end-cut _) k₄ h₄

@@ -1,0 +1,12 @@
+pub mod Bench
+pub mod BytesLaws
+pub mod Outcomes
+pub mod FieldLaws
+pub mod MemoryLaws
+pub mod Machines
+pub mod Stages
+pub mod Inverse
+pub mod Cuts
+pub mod TwoCalls
+pub mod Laws
+pub mod Stores

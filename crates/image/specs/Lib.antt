@@ -1,0 +1,5 @@
+pub mod Bytes
+pub mod Format
+pub mod Reading
+pub mod Calls
+pub mod Bench

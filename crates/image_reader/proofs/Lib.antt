@@ -1,0 +1,5 @@
+pub mod Places
+pub mod Headers
+pub mod Turns
+pub mod Passes
+pub mod Answers

@@ -1,0 +1,46 @@
+use native.Mathlib.Omega.{arith}
+use borrow.Author.Needs.{needs}
+use Rattle.image_reader.proofs.Places.{four-bytes}
+use Rattle.image_reader.proofs.bytes.word_in.Statement.{statement}
+use Rattle.image_reader.proofs.bytes.word_in.Tie as tie
+
+byte-in-requires : tie.Need-byte-in-requires
+byte-in-requires c κs = search needs
+
+add-byte-in : tie.Need-add-byte-in
+add-byte-in c = search needs
+
+byte-in-requires-2 : tie.Need-byte-in-requires-2
+byte-in-requires-2 c κs = search needs
+
+add-byte-in-2 : tie.Need-add-byte-in-2
+add-byte-in-2 c = search needs
+
+byte-in-requires-3 : tie.Need-byte-in-requires-3
+byte-in-requires-3 c κs = search needs
+
+add-byte-in-3 : tie.Need-add-byte-in-3
+add-byte-in-3 c = search needs
+
+byte-in-requires-4 : tie.Need-byte-in-requires-4
+byte-in-requires-4 c κs = search needs
+
+word-of-requires : tie.Need-word-of-requires
+word-of-requires c κs = search needs
+
+returns : tie.Need-returns
+returns c = omega (arith, four-bytes (c .before .before .before .before .before .before .args .bytes .now) (c .before .before .before .before .before .before .args .at))
+
+pub word-in-spec : {M : Type 1} → statement M
+word-in-spec =
+    tie.close
+    (tie.spec
+    byte-in-requires
+    add-byte-in
+    byte-in-requires-2
+    add-byte-in-2
+    byte-in-requires-3
+    add-byte-in-3
+    byte-in-requires-4
+    word-of-requires
+    returns)

@@ -1,0 +1,51 @@
+use mathlib.Core.Path.{ap₂, _∙_}
+use lib.ListN.{drop}
+use borrow.Author.Needs.{needs}
+use Rattle.model.specs.declared.Verdict.{Verdict}
+use Rattle.model.specs.Refusals.{_then_}
+use Rattle.image.specs.Format.{countField}
+use Rattle.image_reader.proofs.Headers.{with-rule, count-rule}
+use Rattle.image_reader.proofs.checks.count_verdict.Statement.{statement}
+use Rattle.image_reader.proofs.checks.count_verdict.Tie as tie
+
+header-verdict-requires : tie.Need-header-verdict-requires
+header-verdict-requires c κs = search needs
+
+word-count-requires : tie.Need-word-count-requires
+word-count-requires c κs = search needs
+
+cast-held : tie.Need-cast-held
+cast-held c = search needs
+
+demand-that-requires : tie.Need-demand-that-requires
+demand-that-requires c κs = search needs
+
+demand-that-requires-2 : tie.Need-demand-that-requires-2
+demand-that-requires-2 c κs = search needs
+
+first-requires : tie.Need-first-requires
+first-requires c κs = search needs
+
+first-requires-2 : tie.Need-first-requires-2
+first-requires-2 c κs = search needs
+
+returns : tie.Need-returns
+returns c =
+    let a = c .before .before .before .before .before .before .before .args in
+    with-rule (countField (a .room)) (drop 46 (a .bytes .now)) (c .first2 .ensures) (c .before .before .before .before .before .header-verdict .ensures)
+    (c .before .first .ensures
+    ∙ ap₂ (λ (x y : Verdict). x then y) (c .before .before .before .demand-that .ensures) (c .before .before .demand-that2 .ensures)
+    ∙ count-rule (a .bytes .now) _ (a .room) (c .before .before .before .before .word-count .ensures))
+
+pub count-verdict-spec : {M : Type 1} → statement M
+count-verdict-spec =
+    tie.close
+    (tie.spec
+    header-verdict-requires
+    word-count-requires
+    cast-held
+    demand-that-requires
+    demand-that-requires-2
+    first-requires
+    first-requires-2
+    returns)

@@ -1,0 +1,29 @@
+use mathlib.Core.Path.{_∙_}
+use borrow.Author.Needs.{needs}
+use Rattle.image.specs.Format.{versionField}
+use Rattle.image_reader.proofs.Headers.{with-rule, version-rule}
+use Rattle.image_reader.proofs.checks.version_verdict.Statement.{statement}
+use Rattle.image_reader.proofs.checks.version_verdict.Tie as tie
+
+header-verdict-requires : tie.Need-header-verdict-requires
+header-verdict-requires c κs = search needs
+
+byte-at-requires : tie.Need-byte-at-requires
+byte-at-requires c κs = search needs
+
+demand-that-requires : tie.Need-demand-that-requires
+demand-that-requires c κs = search needs
+
+first-requires : tie.Need-first-requires
+first-requires c κs = search needs
+
+returns : tie.Need-returns
+returns c =
+    let bytes = c .before .before .before .before .before .args .bytes .now in
+    with-rule versionField bytes (c .first .ensures) (c .before .before .before .header-verdict .ensures)
+    (c .before .demand-that .ensures ∙ version-rule bytes _ (c .before .before .byte-at .ensures .is))
+
+pub version-verdict-spec : {M : Type 1} → statement M
+version-verdict-spec =
+    tie.close
+    (tie.spec header-verdict-requires byte-at-requires demand-that-requires first-requires returns)

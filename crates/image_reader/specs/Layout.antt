@@ -1,0 +1,69 @@
+-- Where things lie in an image: what the reader's two passes work out. `proofs/Passes` shows that this is `readOf`.
+-- Assumes nothing.
+use Prim.Native.Nat.{ℕ, zero, suc, _+_, _*_, _-_, _<_, min}
+use mathlib.Core.Path.{_≡_}
+use mathlib.Core.List.{List, [], _++_}
+use lib.Dec.{eqb}
+use lib.ListN.{length, getD, take, drop}
+use Rattle.model.specs.declared.Machine.{Machine}
+use Rattle.model.specs.declared.Refusal.the-variants.{TrailingBytes}
+use Rattle.model.specs.declared.Verdict.{Verdict}
+use Rattle.model.specs.declared.Verdict.the-variants.{Accepted}
+use Rattle.model.specs.Refusals.{demand, _then_}
+use Rattle.image.specs.Bytes.{number, wordsIn}
+use Rattle.image.specs.Format.{versionField, registersField, flagsField, countField, wordsField, endField, wordsPerField, fieldsFor}
+use Rattle.image.specs.Reading.{fieldVerdict, machineOf}
+
+-- a byte of a slice, 0 past its end
+pub record ByteAt (bytes : List ℕ) (at r : ℕ) : Type 0 where
+  pub is : r ≡ getD bytes at 0
+  pub small : r < 256
+
+-- ---- what is there
+
+abbrev pub versionIn : List ℕ → ℕ
+versionIn bytes = number (take 1 (drop 3 bytes))
+
+abbrev pub machineIn : List ℕ → Machine
+machineIn bytes = machineOf (drop 7 bytes) (drop 42 bytes)
+
+-- M
+abbrev pub countIn : List ℕ → ℕ
+countIn bytes = number (take 4 (drop 49 bytes))
+
+-- the bytes of so many words and their headers
+abbrev pub spanOf : ℕ → ℕ
+spanOf words = 4 * words + 3 * fieldsFor words
+
+unfoldable pub memoryIn : (fields words : ℕ) → List ℕ → List ℕ
+memoryIn zero words bytes = []
+memoryIn (suc n) words bytes =
+    wordsIn (min wordsPerField words) (drop 3 bytes) ++ memoryIn n (words - wordsPerField) (drop (3 + 4 * min wordsPerField words) bytes)
+
+abbrev pub wordsOf : List ℕ → List ℕ
+wordsOf bytes = memoryIn (fieldsFor (countIn bytes)) (countIn bytes) (drop 53 bytes)
+
+-- ---- whether it is in order
+
+unfoldable pub headVerdict : List ℕ → (room : ℕ) → Verdict
+headVerdict bytes room =
+    fieldVerdict versionField bytes
+    then fieldVerdict registersField (drop 4 bytes)
+    then fieldVerdict flagsField (drop 39 bytes)
+    then fieldVerdict (countField room) (drop 46 bytes)
+
+unfoldable pub memoryVerdict : (fields words : ℕ) → List ℕ → Verdict
+memoryVerdict zero words bytes = Accepted
+memoryVerdict (suc n) words bytes =
+    fieldVerdict (wordsField (min wordsPerField words)) bytes
+    then memoryVerdict n (words - wordsPerField) (drop (3 + 4 * min wordsPerField words) bytes)
+
+unfoldable pub endVerdict : List ℕ → Verdict
+endVerdict bytes = fieldVerdict endField bytes then demand (eqb (length (drop 3 bytes)) 0) TrailingBytes
+
+-- the fields of words, from a place on, and the end
+unfoldable pub tailVerdict : (words at : ℕ) → List ℕ → Verdict
+tailVerdict words at bytes = memoryVerdict (fieldsFor words) words (drop at bytes) then endVerdict (drop (at + spanOf words) bytes)
+
+abbrev pub imageVerdict : List ℕ → (room : ℕ) → Verdict
+imageVerdict bytes room = headVerdict bytes room then tailVerdict (countIn bytes) 53 bytes

@@ -1,0 +1,111 @@
+-- Words and fields stored one after the other.
+-- Assumes nothing.
+use Prim.Native.Nat.{ℕ, suc, _+_, _*_, _-_, _≤_, _<_, min}
+use mathlib.Core.Path.{_≡_, refl, sym, ap, ap₂, _∙_}
+use mathlib.Core.List.{List, [], _∷_, _++_}
+use native.Mathlib.Decide.{decLe}
+use native.Mathlib.Numerals.{add-one}
+use native.Mathlib.Omega.{arith}
+use lib.ListN.{length, take, drop, getD, length-drop, drop-of-length-le}
+use lib.Seq.{sets, take-all, length-take-le, drop-cons, drop-drop}
+use Rattle.model.specs.declared.Machine.{Machine}
+use Rattle.image.specs.Bytes.{bytesOf, wordBytes}
+use Rattle.image.specs.Format.{Field, fieldBytes, versionField, registersField, flagsField, countField, wordsField, endField, wordsPerField, fieldsFor, memoryFields, flagBytes, imageOf}
+use Rattle.image.proofs.BytesLaws.{length-bytes, length-word-bytes}
+use Rattle.image.proofs.FieldLaws.{length-field}
+use Rattle.image.proofs.MemoryLaws.{fields-enough, one-field-less, length-memory}
+use Rattle.image.proofs.Stores.{store-step}
+
+-- the next of some words
+pub next-word : (words : List ℕ) (from from′ n n′ : ℕ) → from < length words → from′ ≡ from + 1 → n ≡ n′ + 1
+    → wordBytes (take n (drop from words)) ≡ bytesOf 4 (getD words from 0) ++ wordBytes (take n′ (drop from′ words))
+unfolding wordBytes
+next-word words from from′ n n′ h p q =
+    ap₂ (λ (k : ℕ) (l : List ℕ). wordBytes (take k l)) (q ∙ add-one n′) (drop-cons words from 0 h)
+    ∙ ap (λ (k : ℕ). bytesOf 4 (getD words from 0) ++ wordBytes (take n′ (drop k words))) (sym (add-one from) ∙ sym p)
+
+-- four bytes stored, by what they are
+pub four-put : (out out′ : List ℕ) (at : ℕ) {a b c d a′ b′ c′ d′ : ℕ} → out′ ≡ sets out at (a ∷ b ∷ c ∷ d ∷ []) → a ≡ a′ → b ≡ b′ → c ≡ c′ → d ≡ d′
+    → out′ ≡ sets out at (a′ ∷ b′ ∷ c′ ∷ d′ ∷ [])
+four-put out out′ at e p q r s = e ∙ (λ i. sets out at (p i ∷ q i ∷ r i ∷ s i ∷ []))
+
+-- a header and then a value are a field
+pub field-put : (f : Field) (out out′ out″ : List ℕ) (at n : ℕ) (value : List ℕ) → out′ ≡ sets out at (f .tag ∷ bytesOf 2 n) → out″ ≡ sets out′ (at + 3) value
+    → n ≡ length value → out″ ≡ sets out at (fieldBytes f value)
+unfolding fieldBytes bytesOf
+field-put f out out′ out″ at n value p q e =
+    q
+    ∙ store-step out out′ at (at + 3) (f .tag ∷ bytesOf 2 n) value _ p refl refl
+    ∙ ap (λ (k : ℕ). sets out at (f .tag ∷ (bytesOf 2 k ++ value))) e
+
+-- a header and then all of eight words are the registers' field
+pub registers-put : (out out′ out″ : List ℕ) (at : ℕ) (regs : List ℕ) → length regs ≡ 8 → out′ ≡ sets out at (registersField .tag ∷ bytesOf 2 32)
+    → out″ ≡ sets out′ (at + 3) (wordBytes (take 8 regs)) → out″ ≡ sets out at (fieldBytes registersField (wordBytes regs))
+registers-put out out′ out″ at regs l p q =
+    field-put registersField out out′ out″ at 32 (wordBytes regs) p (q ∙ ap (λ (w : List ℕ). sets out′ (at + 3) (wordBytes w)) (take-all 8 regs (omega arith)))
+    (ap (λ (n : ℕ). 4 * n) (sym l) ∙ sym (length-word-bytes regs))
+
+-- the first n of a list, and what is left without them, where there may be fewer
+least : (n k : ℕ) (l : List ℕ) → k ≡ min n (length l) → (take n l ≡ take k l) × (drop n l ≡ drop k l)
+least n k l e = go (decLe n (length l))
+  where
+    go : Dec (n ≤ length l) → (take n l ≡ take k l) × (drop n l ≡ drop k l)
+    go (yes h) = let q : n ≡ k = omega arith in (ap (λ (x : ℕ). take x l) q, ap (λ (x : ℕ). drop x l) q)
+    go (no h) = (take-all n l (omega arith) ∙ sym (take-all k l (omega arith)), drop-of-length-le l {i = n} (omega arith) ∙ sym (drop-of-length-le l {i = k} (omega arith)))
+
+-- the next field of words
+pub next-field : (memory : List ℕ) (from count : ℕ) → from < length memory → count ≡ min wordsPerField (length memory - from)
+    → memoryFields (fieldsFor (length memory - from)) (drop from memory)
+    ≡ fieldBytes (wordsField count) (wordBytes (take count (drop from memory))) ++ memoryFields (fieldsFor (length memory - (from + count))) (drop (from + count) memory)
+unfolding memoryFields fieldBytes
+next-field memory from count h e =
+    let n : ℕ = length memory - from in
+    let n′ : ℕ = length memory - (from + count) in
+    let q : n - count ≡ n′ = omega arith in
+    let one-less : fieldsFor n ≡ suc (fieldsFor n′) = one-field-less n count (omega arith) e ∙ ap (λ (x : ℕ). suc (fieldsFor x)) q in
+    let k : count ≡ min wordsPerField (length (drop from memory)) = e ∙ ap (min wordsPerField) (sym (length-drop from memory)) in
+    let parts = least wordsPerField count (drop from memory) k in
+    ap (λ (x : ℕ). memoryFields x (drop from memory)) one-less
+    ∙ ap₂ (λ (x y : List ℕ). fieldBytes (wordsField count) (wordBytes x) ++ memoryFields (fieldsFor n′) y) (parts .0) (parts .1 ∙ drop-drop count from memory)
+
+pub length-word-field : (memory : List ℕ) (from count : ℕ) → from + count ≤ length memory
+    → length (fieldBytes (wordsField count) (wordBytes (take count (drop from memory)))) ≡ 3 + 4 * count
+length-word-field memory from count h =
+    let words : List ℕ = take count (drop from memory) in
+    let l : length words ≡ count = length-take-le count (drop from memory) (omega (arith, length-drop from memory)) in
+    omega (arith, length-field (wordsField count) (wordBytes words), length-word-bytes words)
+
+end-field : _≡_ {A = List ℕ} (0xFF ∷ bytesOf 2 0) (fieldBytes endField [])
+unfolding fieldBytes bytesOf
+end-field = refl
+
+-- the fields stored one after the other are the image
+pub image-put : (version : ℕ) (machine : Machine) (memory o₀ o₁ o₂ o₃ o₄ o₅ o₆ : List ℕ) (end : ℕ)
+    → length (machine .regs) ≡ 8 → end ≡ 53 + (4 * length memory + 3 * fieldsFor (length memory))
+    → o₁ ≡ sets o₀ 0 (fieldBytes versionField (version ∷ []))
+    → o₂ ≡ sets o₁ 4 (fieldBytes registersField (wordBytes (machine .regs)))
+    → o₃ ≡ sets o₂ 39 (fieldBytes flagsField (flagBytes (machine .flags)))
+    → o₄ ≡ sets o₃ 46 (fieldBytes (countField (length memory)) (bytesOf 4 (length memory)))
+    → o₅ ≡ sets o₄ 53 (memoryFields (fieldsFor (length memory)) memory)
+    → o₆ ≡ sets o₅ end (0xFF ∷ bytesOf 2 0)
+    → o₆ ≡ sets o₀ 0 (imageOf version machine memory)
+unfolding imageOf
+image-put version machine memory o₀ o₁ o₂ o₃ o₄ o₅ o₆ end eight at p₁ p₂ p₃ p₄ p₅ p₆ =
+    let f₁ : List ℕ = fieldBytes versionField (version ∷ []) in
+    let f₂ : List ℕ = fieldBytes registersField (wordBytes (machine .regs)) in
+    let f₃ : List ℕ = fieldBytes flagsField (flagBytes (machine .flags)) in
+    let f₄ : List ℕ = fieldBytes (countField (length memory)) (bytesOf 4 (length memory)) in
+    let f₅ : List ℕ = memoryFields (fieldsFor (length memory)) memory in
+    let f₆ : List ℕ = fieldBytes endField [] in
+    let n₁ : 4 ≡ 0 + length f₁ = omega (arith, length-field versionField (version ∷ [])) in
+    let n₂ : 39 ≡ 4 + length f₂ = omega (arith, length-field registersField (wordBytes (machine .regs)), length-word-bytes (machine .regs)) in
+    let n₃ : 46 ≡ 39 + length f₃ = omega (arith, length-field flagsField (flagBytes (machine .flags))) in
+    let n₄ : 53 ≡ 46 + length f₄ = omega (arith, length-field (countField (length memory)) (bytesOf 4 (length memory)), length-bytes 4 (length memory)) in
+    let n₅ : end ≡ 53 + length f₅ = omega (arith, length-memory (fieldsFor (length memory)) memory (fields-enough (length memory))) in
+    p₆
+    ∙ ap (sets o₅ end) end-field
+    ∙ store-step o₄ o₅ 53 end f₅ f₆ _ p₅ n₅
+    (store-step o₃ o₄ 46 53 f₄ (f₅ ++ f₆) _ p₄ n₄
+    (store-step o₂ o₃ 39 46 f₃ (f₄ ++ (f₅ ++ f₆)) _ p₃ n₃
+    (store-step o₁ o₂ 4 39 f₂ (f₃ ++ (f₄ ++ (f₅ ++ f₆))) _ p₂ n₂
+    (store-step o₀ o₁ 0 4 f₁ (f₂ ++ (f₃ ++ (f₄ ++ (f₅ ++ f₆)))) _ p₁ n₁ refl))))

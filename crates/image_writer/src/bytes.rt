@@ -1,0 +1,57 @@
+// Numbers and words as bytes, lowest byte first, stored from a place on.
+ghost use mathlib.Core.Path.{_≡_};
+ghost use mathlib.Core.List.{[], _∷_};
+ghost use Prim.Native.Nat.{_+_, _*_, _%_, _≤_};
+ghost use lib.ListN.{length, take, drop};
+ghost use lib.Seq.{sets};
+ghost use Rattle.image.specs.Bytes.{bytesOf, wordBytes};
+
+// The lowest byte of a number.
+fn low(x: u32) -> u8
+    ensures { λ r. ⌜ r ≡ x % 256 ⌝ }
+{
+    (x % 256) as u8
+}
+
+// The compiler joins the four stores into one.
+pub fn put_four(out: &mut [u8], at: usize, a: u8, b: u8, c: u8, d: u8)
+    requires { ⌜ at + 4 ≤ length (now out) ⌝ }
+    ensures { λ r. ⌜ now (out .exit) ≡ sets (now (out .entry)) at (a ∷ b ∷ c ∷ d ∷ []) ⌝ }
+{
+    out[at] = a;
+    out[at + 1] = b;
+    out[at + 2] = c;
+    out[at + 3] = d;
+}
+
+pub fn put_word(out: &mut [u8], at: usize, word: u32)
+    requires { ⌜ at + 4 ≤ length (now out) ⌝ }
+    ensures { λ r. ⌜ now (out .exit) ≡ sets (now (out .entry)) at (bytesOf 4 word) ⌝ }
+{
+    let second = word / 256;
+    let third = second / 256;
+    let fourth = third / 256;
+    put_four(out, at, low(word), low(second), low(third), low(fourth));
+}
+
+// A field's tag and length.
+pub fn put_header(out: &mut [u8], at: usize, tag: u8, size: u32)
+    requires { ⌜ at + 3 ≤ length (now out) ⌝ }
+    ensures { λ r. ⌜ now (out .exit) ≡ sets (now (out .entry)) at (tag ∷ bytesOf 2 size) ⌝ }
+{
+    out[at] = tag;
+    out[at + 1] = low(size);
+    out[at + 2] = low(size / 256);
+}
+
+// `count` words, those from `from` on.
+pub fn put_words(words: &[u32], from: usize, count: usize, out: &mut [u8], at: usize)
+    requires { ⌜ (from + count ≤ length (now words)) × (at + 4 * count ≤ length (now out)) ⌝ }
+    ensures { λ r. ⌜ now (out .exit) ≡ sets (now (out .entry)) at (wordBytes (take count (drop from (now (words .entry))))) ⌝ }
+{
+    let mut i = 0;
+    while i < count {
+        put_word(out, at + 4 * i, words[from + i]);
+        i += 1;
+    }
+}

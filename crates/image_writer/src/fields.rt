@@ -1,0 +1,106 @@
+// The fields of an image, each stored from a place on.
+use super::bytes::put_four;
+use super::bytes::put_header;
+use super::bytes::put_word;
+use super::bytes::put_words;
+use image::words_in_field;
+use model::Flags;
+use model::Machine;
+ghost use mathlib.Core.Path.{_≡_};
+ghost use mathlib.Core.List.{[], _∷_};
+ghost use Prim.Native.Nat.{_+_, _*_, _≤_};
+ghost use lib.ListN.{length, take, drop};
+ghost use lib.Seq.{sets};
+ghost use Rattle.arithmetic.specs.Words.{asNumber};
+ghost use Rattle.model.specs.Refusals.{mostWords};
+ghost use Rattle.image.specs.Bytes.{bytesOf, wordBytes};
+ghost use Rattle.image.specs.Format.{fieldBytes, versionField, registersField, flagsField, countField, wordsField, wordsPerField, fieldsFor, memoryFields, flagBytes, imageOf};
+
+pub fn image_size(words: usize) -> usize
+    requires { ⌜ words ≤ mostWords ⌝ }
+    ensures { λ r. ⌜ r ≡ 56 + 4 * words + 3 * fieldsFor words ⌝ }
+{
+    56 + 4 * words + 3 * ((words + 1023) / 1024)
+}
+
+fn flag_byte(flag: bool) -> u8
+    ensures { λ r. ⌜ r ≡ asNumber flag ⌝ }
+{
+    if flag { 1 } else { 0 }
+}
+
+fn put_version(out: &mut [u8], at: usize, version: u8)
+    requires { ⌜ at + 4 ≤ length (now out) ⌝ }
+    ensures { λ r. ⌜ now (out .exit) ≡ sets (now (out .entry)) at (fieldBytes versionField (version ∷ [])) ⌝ }
+{
+    put_header(out, at, 1, 1);
+    out[at + 3] = version;
+}
+
+fn put_registers(out: &mut [u8], at: usize, regs: [u32; 8])
+    requires { ⌜ at + 35 ≤ length (now out) ⌝ }
+    ensures { λ r. ⌜ now (out .exit) ≡ sets (now (out .entry)) at (fieldBytes registersField (wordBytes regs)) ⌝ }
+{
+    put_header(out, at, 2, 32);
+    put_words(&regs, 0, 8, out, at + 3);
+}
+
+fn put_flags(out: &mut [u8], at: usize, flags: Flags)
+    requires { ⌜ at + 7 ≤ length (now out) ⌝ }
+    ensures { λ r. ⌜ now (out .exit) ≡ sets (now (out .entry)) at (fieldBytes flagsField (flagBytes flags)) ⌝ }
+{
+    put_header(out, at, 3, 4);
+    let carry = flag_byte(flags.carry);
+    let overflow = flag_byte(flags.overflow);
+    let negative = flag_byte(flags.negative);
+    let zero = flag_byte(flags.zero);
+    put_four(out, at + 3, carry, overflow, negative, zero);
+}
+
+fn put_count(out: &mut [u8], at: usize, words: u32)
+    requires { ⌜ at + 7 ≤ length (now out) ⌝ }
+    ensures { λ r. ⌜ now (out .exit) ≡ sets (now (out .entry)) at (fieldBytes (countField words) (bytesOf 4 words)) ⌝ }
+{
+    put_header(out, at, 4, 4);
+    put_word(out, at + 3, words);
+}
+
+// One tag-05 field.
+fn put_word_field(memory: &[u32], from: usize, count: usize, out: &mut [u8], at: usize)
+    requires { ⌜ (from + count ≤ length (now memory)) × (count ≤ wordsPerField) × (at + 3 + 4 * count ≤ length (now out)) ⌝ }
+    ensures { λ r. ⌜ now (out .exit) ≡ sets (now (out .entry)) at (fieldBytes (wordsField count) (wordBytes (take count (drop from (now (memory .entry)))))) ⌝ }
+{
+    put_header(out, at, 5, (4 * count) as u32);
+    put_words(memory, from, count, out, at + 3);
+}
+
+// All tag-05 fields.
+fn put_memory(memory: &[u32], out: &mut [u8], start: usize)
+    requires { ⌜ start + (4 * length (now memory) + 3 * fieldsFor (length (now memory))) ≤ length (now out) ⌝ }
+    ensures { λ r. ⌜ now (out .exit) ≡ sets (now (out .entry)) start (memoryFields (fieldsFor (length (now (memory .entry)))) (now (memory .entry))) ⌝ }
+{
+    let mut at = start;
+    let mut from = 0;
+    while from < memory.len() {
+        let count = words_in_field(memory.len() - from);
+        put_word_field(memory, from, count, out, at);
+        at = at + 3 + 4 * count;
+        from = from + count;
+    }
+}
+
+pub fn put_image(memory: &[u32], machine: Machine, out: &mut [u8])
+    requires { ⌜ (length (now memory) ≤ mostWords) × (56 + 4 * length (now memory) + 3 * fieldsFor (length (now memory)) ≤ length (now out)) ⌝ }
+    ensures { λ r. ⌜ now (out .exit) ≡ sets (now (out .entry)) 0 (imageOf 1 machine (now (memory .entry))) ⌝ }
+{
+    let words = memory.len();
+    let end = image_size(words) - 3;
+    let regs = machine.regs;
+    let flags = machine.flags;
+    put_version(out, 0, 1);
+    put_registers(out, 4, regs);
+    put_flags(out, 39, flags);
+    put_count(out, 46, words as u32);
+    put_memory(memory, out, 53);
+    put_header(out, end, 255, 0);
+}

@@ -1,0 +1,4 @@
+pub mod ClockLaws
+pub mod JournalLaws
+pub mod RunLaws
+pub mod CallLaws

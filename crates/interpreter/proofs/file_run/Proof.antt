@@ -1,0 +1,77 @@
+use borrow.Author.Needs.{needs}
+use Rattle.interpreter.proofs.CallLaws.{file-refused, file-finished, file-undone}
+use Rattle.interpreter.proofs.file_run.Statement.{statement}
+use Rattle.interpreter.proofs.file_run.Tie as tie
+
+file-verdict-requires : tie.Need-file-verdict-requires
+file-verdict-requires c κs = search needs
+
+enum-known-why : tie.Need-enum-known-why
+enum-known-why c = search needs
+
+enum-told : tie.Need-enum-told
+enum-told c = search needs
+
+slice-aggregate-engine : tie.Need-slice-aggregate-engine
+slice-aggregate-engine c = search needs
+
+engine-requires : tie.Need-engine-requires
+engine-requires c κs = search needs
+
+enum-told-2 : tie.Need-enum-told-2
+enum-told-2 c = search needs
+
+enum-told-3 : tie.Need-enum-told-3
+enum-told-3 c = search needs
+
+undo-requires : tie.Need-undo-requires
+undo-requires c κs = search needs
+
+same-length : tie.Need-same-length
+same-length c = search needs
+
+same-length-2 : tie.Need-same-length-2
+same-length-2 c = search needs
+
+returns : tie.Need-returns
+returns c = file-refused (c .before .before .before .before .before .before .before .before .args .memory .now) (c .before .before .before .before .before .before .before .before .args .journal .now) (c .before .before .before .before .before .before .before .before .args .start) (c .before .before .before .before .before .before .before .before .args .count) (c .before .why .given .1) (c .before .before .before .file-verdict .ensures)
+
+same-length-3 : tie.Need-same-length-3
+same-length-3 c = search needs
+
+same-length-4 : tie.Need-same-length-4
+same-length-4 c = search needs
+
+returns-2 : tie.Need-returns-2
+returns-2 c = file-finished (c .before .before .before .before .before .before .before .before .before .before .before .before .before .before .before .before .before .before .args .memory .now) (c .before .before .before .before .before .before .before .before .before .before .before .before .before .before .before .before .before .before .args .journal .now) (c .before .before .before .before .before .before .before .before .before .before .before .before .before .before .before .before .before .before .args .start) (c .before .before .before .before .before .before .before .before .before .before .before .before .before .before .before .before .before .before .args .count) (c .before .before .before .before .before .before .before .before .before .before .before .enum-told .given .1) (c .before .before .before .before .before .before .before .before .before .before .before .before .before .file-verdict .ensures) (c .before .before .before .before .before .before .before .engine .ensures) (c .before .enum-told2 .given .1)
+
+same-length-5 : tie.Need-same-length-5
+same-length-5 c = search needs
+
+same-length-6 : tie.Need-same-length-6
+same-length-6 c = search needs
+
+returns-3 : tie.Need-returns-3
+returns-3 c = file-undone (c .before .before .before .before .before .before .before .before .before .before .before .before .before .before .before .before .before .before .before .before .before .before .args .memory .now) (c .before .before .before .before .before .before .before .before .before .before .before .before .before .before .before .before .before .before .before .before .before .before .args .journal .now) (c .before .before .before .before .before .before .before .before .before .before .before .before .before .before .before .before .before .before .before .before .before .before .args .start) (c .before .before .before .before .before .before .before .before .before .before .before .before .before .before .before .before .before .before .before .before .before .before .args .count) (c .before .before .before .before .before .before .before .before .before .before .before .before .before .before .before .enum-told .given .1) (c .before .before .before .before .before .before .before .before .before .before .before .before .before .before .before .before .before .file-verdict .ensures) (c .before .before .before .before .before .before .before .before .before .before .before .engine .ensures) (c .before .before .before .before .before .enum-told3 .given .1) (c .before .before .undo .ensures)
+
+pub file-run-spec : {M : Type 1} → statement M
+file-run-spec =
+    tie.close
+    (tie.spec
+    file-verdict-requires
+    enum-known-why
+    enum-told
+    slice-aggregate-engine
+    engine-requires
+    enum-told-2
+    enum-told-3
+    undo-requires
+    same-length
+    same-length-2
+    returns
+    same-length-3
+    same-length-4
+    returns-2
+    same-length-5
+    same-length-6
+    returns-3)

@@ -1,0 +1,49 @@
+use borrow.Author.Needs.{needs}
+use Rattle.interpreter.proofs.CallLaws.{run-refused, run-carried}
+use Rattle.interpreter.proofs.run.Statement.{statement}
+use Rattle.interpreter.proofs.run.Tie as tie
+
+run-verdict-requires : tie.Need-run-verdict-requires
+run-verdict-requires c κs = search needs
+
+enum-known-why : tie.Need-enum-known-why
+enum-known-why c = search needs
+
+enum-told : tie.Need-enum-told
+enum-told c = search needs
+
+slice-aggregate-engine : tie.Need-slice-aggregate-engine
+slice-aggregate-engine c = search needs
+
+engine-requires : tie.Need-engine-requires
+engine-requires c κs = search needs
+
+run-answer-requires : tie.Need-run-answer-requires
+run-answer-requires c κs = search needs
+
+same-length : tie.Need-same-length
+same-length c = search needs
+
+returns : tie.Need-returns
+returns c = run-refused (c .before .before .before .before .before .before .before .args .memory .now) (c .before .before .before .before .before .before .before .args .waits .now) (c .before .before .before .before .before .before .before .args .start) (c .before .before .before .before .before .before .before .args .count) (c .before .why .given .1) (c .before .before .before .run-verdict .ensures)
+
+same-length-2 : tie.Need-same-length-2
+same-length-2 c = search needs
+
+returns-2 : tie.Need-returns-2
+returns-2 c = run-carried (c .before .before .before .before .before .before .before .before .before .before .before .before .before .before .args .memory .now) (c .before .before .before .before .before .before .before .before .before .before .before .before .before .before .args .waits .now) (c .before .before .before .before .before .before .before .before .before .before .before .before .before .before .args .start) (c .before .before .before .before .before .before .before .before .before .before .before .before .before .before .args .count) (c .before .before .before .before .before .before .before .before .enum-told .given .1) (c .before .before .before .before .before .before .before .before .before .before .run-verdict .ensures) (c .before .before .before .before .before .engine .ensures) (c .run-answer .ensures)
+
+pub run-spec : {M : Type 1} → statement M
+run-spec =
+    tie.close
+    (tie.spec
+    run-verdict-requires
+    enum-known-why
+    enum-told
+    slice-aggregate-engine
+    engine-requires
+    run-answer-requires
+    same-length
+    returns
+    same-length-2
+    returns-2)

@@ -1,0 +1,11 @@
+-- Taking a file run back ("File run and journal"): the former words of a journal's pairs put back into the memory.
+-- Assumes nothing.
+use Prim.Native.Nat.{ℕ, zero, suc, _+_, _*_}
+use mathlib.Core.List.{List}
+use Rattle.model.specs.Words.{wordAt, storeWord}
+
+-- the memory with the former words of the first k pairs put back, pair k - 1 first
+unfoldable pub undone : ℕ → List ℕ → List ℕ → List ℕ
+undone zero journal memory = memory
+undone (suc k) journal memory =
+    undone k journal (storeWord memory (wordAt journal (2 * k)) (wordAt journal (2 * k + 1)))

@@ -1,0 +1,4 @@
+pub mod Clocks
+pub mod Journals
+pub mod Runs
+pub mod Calls

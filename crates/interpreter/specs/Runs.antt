@@ -1,0 +1,19 @@
+-- What the loop that both runs share leaves: the state, the memory and the journal of `interpret` ("Machine and instruction word", "Clocks", "File run and journal").
+-- Assumes nothing.
+use Prim.Native.Nat.{ℕ, _*_, _≤_}
+use mathlib.Core.Path.{_≡_}
+use mathlib.Core.List.{List}
+use lib.ListN.{length}
+use Rattle.model.specs.declared.Machine.{Machine}
+use Rattle.model.specs.Interpreter.{Run, begin, interpret}
+use Rattle.model.specs.Journal.{journalPairs, journalWords, overlay}
+use Rattle.interpreter.specs.declared.engine.Ended.{Ended}
+
+abbrev pub endedOf : Run → ℕ → Ended
+endedOf r pairs =
+    record { ending = r .ending; machine = r .machine; ran = r .ran; clocks = r .clocks; pairs = pairs }
+
+pub record Ends (memory waits journal : List ℕ) (start : Machine) (count : ℕ) (memory′ journal′ : List ℕ) (e : Ended) : Type 0 where
+  pub result : e ≡ endedOf (interpret waits count (begin start memory 0)) (length (journalPairs waits count (begin start memory 0)))
+  pub words : memory′ ≡ interpret waits count (begin start memory 0) .memory
+  pub pairs : 2 * count ≤ length journal → journal′ ≡ overlay (journalWords (journalPairs waits count (begin start memory 0))) journal

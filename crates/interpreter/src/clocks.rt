@@ -1,0 +1,79 @@
+// The clocks of an instruction, with the waits of its accesses.
+use instruction::operand::in_memory;
+use instruction::operand::operand_a;
+use instruction::operand::operand_b;
+ghost use mathlib.Core.Path.{_≡_};
+ghost use mathlib.Core.Bool.{cond};
+ghost use Prim.Native.Nat.{_+_, _^_, _<_, _≤_};
+ghost use Rattle.arithmetic.specs.Words.{asNumber};
+ghost use Rattle.interpreter.specs.Clocks.{costOf, moreOf, clockedOf};
+
+// Clocks so far, and the position in the wait list.
+pub struct Spent {
+    pub clocks: u64,
+    pub position: usize,
+}
+
+fn wide16(x: u16) -> u64
+    ensures { λ r. ⌜ r ≡ x ⌝ }
+{
+    x as u64
+}
+
+// A truth as 0 or 1.
+fn number(b: bool) -> u64
+    ensures { λ r. ⌜ r ≡ asNumber b ⌝ }
+{
+    if b { 1 } else { 0 }
+}
+
+// One clock each for A in memory, B in memory and a store.
+fn cost(a: bool, b: bool, stored: bool) -> u64
+    ensures { λ r. ⌜ (r ≡ costOf a b stored) × (r ≤ 11) ⌝ }
+{
+    8 + number(a) + number(b) + number(stored)
+}
+
+// The wait of one access more.
+fn more(waits: &[u16], w: Spent) -> Spent
+    requires { ⌜ w .clocks < 2 ^ 62 ⌝ }
+    ensures { λ r. ⌜ (r ≡ moreOf (now (waits .entry)) w) × (r .clocks < w .clocks + 65536) ⌝ }
+{
+    let position = w.position;
+    if position < waits.len() {
+        return Spent {
+            clocks: w.clocks + wide16(waits[position]),
+            position: position + 1,
+        };
+    }
+    w
+}
+
+fn more_if(waits: &[u16], w: Spent, b: bool) -> Spent
+    requires { ⌜ w .clocks < 2 ^ 62 ⌝ }
+    ensures { λ r. ⌜ (r ≡ cond b (moreOf (now (waits .entry)) w) w) × (r .clocks < w .clocks + 65536) ⌝ }
+{
+    if b {
+        return more(waits, w);
+    }
+    w
+}
+
+// One instruction more: its cost, and the waits for its fetch, A, B and store to memory.
+pub fn clocked(waits: &[u16], w: Spent, word: u32, stored: bool) -> Spent
+    requires { ⌜ w .clocks < 2 ^ 61 ⌝ }
+    ensures { λ r. ⌜ r ≡ clockedOf (now (waits .entry)) w word stored ⌝ }
+{
+    let mem_a = in_memory(operand_a(word));
+    let mem_b = in_memory(operand_b(word));
+    let position = w.position;
+    let clocks = w.clocks + cost(mem_a, mem_b, stored);
+    let before = Spent { clocks, position };
+    if waits.len() <= position {
+        return before;
+    }
+    let fetched = more(waits, before);
+    let with_a = more_if(waits, fetched, mem_a);
+    let with_b = more_if(waits, with_a, mem_b);
+    more_if(waits, with_b, stored & mem_b)
+}

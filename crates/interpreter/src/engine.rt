@@ -1,0 +1,67 @@
+// The loop that both kinds of run share. One loop with one call of the step, waits and journal in it: a second one would cost both their speed.
+use super::clocks::Spent;
+use super::clocks::clocked;
+use instruction::flags::packed;
+use instruction::flags::unpacked;
+use model::Ending;
+use model::Machine;
+use step::step;
+ghost use Rattle.interpreter.specs.Runs.{Ends};
+
+// A run at its end, with the number of its journal pairs.
+pub struct Ended {
+    pub ending: Ending,
+    pub machine: Machine,
+    pub ran: u32,
+    pub clocks: u64,
+    pub pairs: u32,
+}
+
+// Up to count instructions. A journal of 2 * count places gets every pair; a shorter one is for callers that want none.
+pub fn engine(
+    memory: &mut [u32],
+    waits: &[u16],
+    journal: &mut [u32],
+    start: Machine,
+    count: u32,
+) -> Ended
+    ensures { λ r. ⌜ Ends (now (memory .entry)) (now (waits .entry)) (now (journal .entry)) start count (now (memory .exit)) (now (journal .exit)) r ⌝ }
+{
+    let mut regs = start.regs;
+    let first = start.flags;
+    let mut flags = packed(first);
+    let mut position: usize = 0;
+    let mut clocks: u64 = 0;
+    let mut pairs: u32 = 0;
+    let mut i: u32 = 0;
+    while i < count {
+        let s = step(&mut regs, &mut *memory, &mut *journal, pairs, flags);
+        if !s.inside {
+            let stopped = unpacked(flags);
+            return Ended {
+                ending: Ending::Outside,
+                machine: Machine {
+                    regs,
+                    flags: stopped,
+                },
+                ran: i,
+                clocks,
+                pairs,
+            };
+        }
+        let c = clocked(waits, Spent { clocks, position }, s.word, s.stored);
+        flags = s.flags;
+        clocks = c.clocks;
+        position = c.position;
+        pairs = s.pairs;
+        i += 1;
+    }
+    let last = unpacked(flags);
+    Ended {
+        ending: Ending::Finished,
+        machine: Machine { regs, flags: last },
+        ran: i,
+        clocks,
+        pairs,
+    }
+}

@@ -1,0 +1,116 @@
+// The interpreter: runs of whole instructions with waits and clocks, and the file run with its undo journal.
+mod clocks;
+mod engine;
+mod journal;
+
+use engine::engine;
+use journal::undo;
+use model::Ending;
+use model::Machine;
+use model::Refusal;
+use model::Verdict;
+use refusals::file_verdict;
+use refusals::run_verdict;
+ghost use mathlib.Core.Path.{_≡_};
+ghost use Rattle.interpreter.specs.Calls.{runAnswer, Runs, FileRuns};
+
+pub enum RunAnswer {
+    Finished,
+    Outside,
+    Refused(Refusal),
+}
+
+pub struct RunResult {
+    pub answer: RunAnswer,
+    pub machine: Machine,
+    pub ran: u32,
+    pub clocks: u64,
+}
+
+pub enum FileAnswer {
+    Finished,
+    Undone,
+    Refused(Refusal),
+}
+
+// pairs: how many pairs the journal holds.
+pub struct FileResult {
+    pub answer: FileAnswer,
+    pub machine: Machine,
+    pub ran: u32,
+    pub pairs: u32,
+}
+
+fn run_answer(ending: Ending) -> RunAnswer
+    ensures { λ r. ⌜ r ≡ runAnswer ending ⌝ }
+{
+    match ending {
+        Ending::Finished => RunAnswer::Finished,
+        Ending::Outside => RunAnswer::Outside,
+    }
+}
+
+// Up to count instructions from start, with waits.
+pub fn run(memory: &mut [u32], waits: &[u16], start: Machine, count: u32) -> RunResult
+    ensures { λ r. ⌜ Runs (now (memory .entry)) (now (waits .entry)) start count (now (memory .exit)) r ⌝ }
+{
+    match run_verdict(&memory[..], waits) {
+        Verdict::Refused(why) => RunResult {
+            answer: RunAnswer::Refused(why),
+            machine: start,
+            ran: 0,
+            clocks: 0,
+        },
+        Verdict::Accepted => {
+            let mut none: [u32; 0] = [];
+            let e = engine(&mut *memory, waits, &mut none, start, count);
+            let machine = e.machine;
+            let ending = e.ending;
+            RunResult {
+                answer: run_answer(ending),
+                machine,
+                ran: e.ran,
+                clocks: e.clocks,
+            }
+        }
+    }
+}
+
+// Up to count instructions from start, without waits; each store to memory is journaled, and a run that comes outside is undone.
+pub fn file_run(memory: &mut [u32], journal: &mut [u32], start: Machine, count: u32) -> FileResult
+    ensures { λ r. ⌜ FileRuns (now (memory .entry)) (now (journal .entry)) start count (now (memory .exit)) (now (journal .exit)) r ⌝ }
+{
+    match file_verdict(&memory[..], &journal[..], count) {
+        Verdict::Refused(why) => FileResult {
+            answer: FileAnswer::Refused(why),
+            machine: start,
+            ran: 0,
+            pairs: 0,
+        },
+        Verdict::Accepted => {
+            let none: [u16; 0] = [];
+            let e = engine(&mut *memory, &none, &mut *journal, start, count);
+            let ending = e.ending;
+            match ending {
+                Ending::Finished => {
+                    let last = e.machine;
+                    FileResult {
+                        answer: FileAnswer::Finished,
+                        machine: last,
+                        ran: e.ran,
+                        pairs: e.pairs,
+                    }
+                }
+                Ending::Outside => {
+                    undo(&mut *memory, &journal[..], e.pairs);
+                    FileResult {
+                        answer: FileAnswer::Undone,
+                        machine: start,
+                        ran: e.ran,
+                        pairs: e.pairs,
+                    }
+                }
+            }
+        }
+    }
+}

@@ -1,0 +1,154 @@
+-- How long the texts are: none is longer than `longestText`.
+-- Assumes nothing.
+use Prim.Native.Nat.{ℕ, zero, suc, _+_, _-_, _*_, _^_, _≤_, _<_}
+use mathlib.Core.Path.{_≡_, refl}
+use mathlib.Core.Bool.{Bool, true, false, cond}
+use mathlib.Core.List.{List, []}
+use native.Mathlib.Omega.{arith}
+use lib.Dec.{ltb}
+use lib.ListN.{length, length-append}
+use borrow.Author.Tests.{ltb-true, ltb-false}
+use Rattle.model.specs.declared.Flags.{Flags}
+use Rattle.model.specs.declared.Machine.{Machine}
+use Rattle.model.specs.declared.Ending.{Ending}
+use Rattle.model.specs.declared.Ending.the-variants.{Finished, Outside}
+use Rattle.model.specs.declared.Refusal.{Refusal}
+use Rattle.model.specs.declared.Refusal.the-variants.{NoWords, TooManyWords, LongWaitList, BadGateState, TooManyInstructions, ShortJournal, ShortOutput, CutImage, WrongTag, WrongLength, WrongVersion, BadFlag, BadWordCount, ShortMemory, TrailingBytes}
+use Rattle.model.specs.Refusals.{refusalNumber}
+use Rattle.model.specs.Waits.{waitAt}
+use Rattle.model.specs.Interpreter.{Run, inside, begin, execute, stop, advance, interpret}
+use Rattle.model.proofs.Bounds.{clocks-le}
+use Rattle.image.specs.Reading.{Outcome, loaded, refused}
+use Rattle.text.specs.Text.{decimal}
+use Rattle.text.proofs.Figures.{length-digits, decimal-le}
+use Rattle.ledger_text.specs.Report.{ledger}
+use Rattle.ledger_text.specs.Lines.{line, lineIf, lineBetween, lines, header, ending, endingWord, runText, refusedText, longestText}
+
+-- ---- figures: counts and clocks are small
+
+no-wait : (p : ℕ) → waitAt [] p ≤ 0
+unfolding waitAt
+no-wait p = omega arith
+
+pub clocks-small : (n : ℕ) (r : Run) → interpret [] n r .clocks ≤ r .clocks + n * 11
+clocks-small n r = clocks-le [] 0 no-wait n r
+
+advance-ran : (m : Machine) (memory : List ℕ) (p f c : ℕ) (q : Ending)
+    → advance [] (record { machine = m; memory = memory; position = p; ran = f; clocks = c; ending = q }) .ran ≤ f + 1
+unfolding advance execute stop
+advance-ran m memory p f c Finished = go (inside memory m)
+  where
+    r : Run
+    r = record { machine = m; memory = memory; position = p; ran = f; clocks = c; ending = Finished }
+
+    go : (t : Bool) → cond t (execute [] r) (stop Outside r) .ran ≤ f + 1
+    go true = omega arith
+    go false = omega arith
+advance-ran m memory p f c Outside = omega arith
+
+ran-small : (n : ℕ) (r : Run) → interpret [] n r .ran ≤ r .ran + n
+unfolding interpret
+ran-small zero r = omega arith
+ran-small (suc n) r =
+    let i = interpret [] n r in
+    omega (arith, ran-small n r, advance-ran (i .machine) (i .memory) (i .position) (i .ran) (i .clocks) (i .ending))
+
+-- ---- lines
+
+-- 25 bytes besides the two numbers
+line-length : (number address word clocks : ℕ) (flags : Flags)
+    → length (line number address word clocks flags) ≡ length (decimal number) + length (decimal clocks) + 25
+unfolding line
+line-length number address word clocks flags = simp (length-append, length-digits) (omega arith)
+
+-- one digit up to nine, two up to 99
+count-digits : (i n : ℕ) → i ≤ suc n → n < 99 → length (decimal i) + (n - 9) ≤ 1 + (suc n - 9)
+count-digits i n h small = go (ltb n 9) refl
+  where
+    go : (t : Bool) → ltb n 9 ≡ t → length (decimal i) + (n - 9) ≤ 1 + (suc n - 9)
+    go true e = let below = ltb-true n 9 e in omega (arith, decimal-le 0 i (omega arith))
+    go false e = let past = ltb-false n 9 e in omega (arith, decimal-le 1 i (omega arith))
+
+between-length : (before after : Run)
+    → length (lineBetween before after) ≤ length (decimal (after .ran)) + length (decimal (after .clocks - before .clocks)) + 25
+unfolding lineBetween
+between-length before after = go (after .ending) _ _
+  where
+    own : ℕ
+    own = after .clocks - before .clocks
+
+    go : (e : Ending) (address word : ℕ)
+        → length (lineIf e (line (after .ran) address word own (after .machine .flags))) ≤ length (decimal (after .ran)) + length (decimal own) + 25
+    go Finished address word = omega (arith, line-length (after .ran) address word own (after .machine .flags))
+    go Outside address word = omega arith
+
+ending-length : (word : List ℕ) (count total : ℕ) → length (ending word count total) ≡ length word + length (decimal count) + length (decimal total) + 2
+unfolding ending
+ending-length word count total = simp length-append (omega arith)
+
+word-length : (e : Ending) → length (endingWord e) ≤ 9
+word-length Finished = omega arith
+word-length Outside = omega arith
+
+module _ (start : Machine) (memory : List ℕ) where
+  abbrev first : Run
+  first = begin start memory 0
+
+  between-le : (n : ℕ) → n < 99 → length (lineBetween (interpret [] n first) (interpret [] (suc n) first)) + (n - 9) ≤ 28 + (suc n - 9)
+  unfolding interpret
+  between-le n small =
+      let before = interpret [] n first in
+      let after = interpret [] (suc n) first in
+      let few : after .clocks ≤ before .clocks + 1 * 11 = clocks-small 1 before in
+      omega (
+        arith,
+        between-length before after,
+        decimal-le 1 (after .clocks - before .clocks) (omega arith),
+        count-digits (after .ran) n (omega (arith, ran-small (suc n) first)) small,
+      )
+
+  pub lines-length : (n : ℕ) → n < 100 → length (lines n first) ≤ 28 * n + (n - 9)
+  unfolding lines
+  lines-length zero small = omega arith
+  lines-length (suc n) small = rw length-append (omega (arith, lines-length n (omega arith), between-le n (omega arith)))
+
+  run-length : length (runText first) ≤ longestText
+  unfolding runText header
+  run-length =
+      let last = interpret [] 16 first in
+      rw length-append
+      (rw length-append
+      (omega (
+        arith,
+        lines-length 16 (omega arith),
+        ending-length (endingWord (last .ending)) (last .ran) (last .clocks),
+        word-length (last .ending),
+        decimal-le 1 (last .ran) (omega (arith, ran-small 16 first)),
+        decimal-le 2 (last .clocks) (omega (arith, clocks-small 16 first)),
+      )))
+
+few-refusals : (why : Refusal) → refusalNumber why < 10 ^ 2
+few-refusals NoWords = omega arith
+few-refusals TooManyWords = omega arith
+few-refusals LongWaitList = omega arith
+few-refusals BadGateState = omega arith
+few-refusals TooManyInstructions = omega arith
+few-refusals ShortJournal = omega arith
+few-refusals ShortOutput = omega arith
+few-refusals CutImage = omega arith
+few-refusals WrongTag = omega arith
+few-refusals WrongLength = omega arith
+few-refusals WrongVersion = omega arith
+few-refusals BadFlag = omega arith
+few-refusals BadWordCount = omega arith
+few-refusals ShortMemory = omega arith
+few-refusals TrailingBytes = omega arith
+
+refused-length : (why : Refusal) → length (refusedText why) ≤ longestText
+unfolding refusedText
+refused-length why = simp length-append (omega (arith, decimal-le 1 (refusalNumber why) (few-refusals why)))
+
+-- every ledger fits the room that is asked for
+pub ledger-length : (o : Outcome) → length (ledger o) ≤ longestText
+ledger-length (loaded version machine words) = run-length machine words
+ledger-length (refused why) = refused-length why

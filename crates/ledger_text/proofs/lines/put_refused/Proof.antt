@@ -1,0 +1,37 @@
+-- `ledger_text::lines::put_refused` meets its contract. Assumes nothing.
+use borrow.Author.Needs.{needs}
+use Rattle.ledger_text.specs.Lines.{refusedText}
+use Rattle.ledger_text.proofs.PartLaws.{start, _▸_}
+use Rattle.ledger_text.proofs.lines.put_refused.Statement.{statement}
+use Rattle.ledger_text.proofs.lines.put_refused.Tie as tie
+
+slice-aggregate-put-text : tie.Need-slice-aggregate-put-text
+slice-aggregate-put-text c = search needs
+
+put-text-requires : tie.Need-put-text-requires
+put-text-requires c κs = search needs
+
+number-of-requires : tie.Need-number-of-requires
+number-of-requires c κs = search needs
+
+put-number-requires : tie.Need-put-number-requires
+put-number-requires c κs = search needs
+
+same-length : tie.Need-same-length
+same-length c = search needs
+
+returns : tie.Need-returns
+unfolding refusedText
+returns c =
+    rw (c .before .before .before .number-of .ensures) at (start (c .before .before .before .before .before .before .before .put-text .ensures) ▸ c .before .before .put-number .ensures .whole)
+
+pub put-refused-spec : {M : Type 1} → statement M
+put-refused-spec =
+    tie.close
+    (tie.spec
+    slice-aggregate-put-text
+    put-text-requires
+    number-of-requires
+    put-number-requires
+    same-length
+    returns)

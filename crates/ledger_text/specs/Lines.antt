@@ -1,0 +1,86 @@
+-- The ledger's text as a list of bytes: what document 01, "The ledger program", has printed for an image.
+-- Assumes nothing.
+use Prim.Native.Nat.{ℕ, zero, suc, _-_}
+use mathlib.Core.List.{List, [], _∷_, _++_}
+use Rattle.arithmetic.specs.Words.{asNumber}
+use Rattle.model.specs.declared.Flags.{Flags}
+use Rattle.model.specs.declared.Ending.{Ending}
+use Rattle.model.specs.declared.Ending.the-variants.{Finished, Outside}
+use Rattle.model.specs.declared.Refusal.{Refusal}
+use Rattle.model.specs.Refusals.{refusalNumber}
+use Rattle.model.specs.Interpreter.{Run, pc, instruction, interpret}
+use Rattle.text.specs.Text.{letters, space, lineFeed, digit, decimal, hexadecimal}
+
+-- how many instructions are run at most
+abbrev pub mostLines : ℕ
+mostLines = 16
+
+unfoldable pub header : List ℕ
+header = letters "step pc word clocks cvnz\n"
+
+-- the flags as digits, in the order C, V, N, Z
+abbrev pub flagDigits : Flags → List ℕ
+flagDigits flags =
+    digit (asNumber (flags .carry))
+    ∷ digit (asNumber (flags .overflow))
+    ∷ digit (asNumber (flags .negative))
+    ∷ digit (asNumber (flags .zero))
+    ∷ []
+
+-- a figure with a space after it; the last figure of a line
+abbrev pub spaced : List ℕ → List ℕ
+spaced figure = figure ++ space ∷ []
+
+abbrev pub ended : List ℕ → List ℕ
+ended figure = figure ++ lineFeed ∷ []
+
+-- an instruction's line: its number, address, word, clocks, and the flags after it
+unfoldable pub line : (number address word clocks : ℕ) → Flags → List ℕ
+line number address word clocks flags =
+    spaced (decimal number)
+    ++ spaced (hexadecimal address)
+    ++ spaced (hexadecimal word)
+    ++ spaced (decimal clocks)
+    ++ ended (flagDigits flags)
+
+-- the line of the instruction between two states of a run, if it ran
+abbrev pub lineIf : Ending → List ℕ → List ℕ
+lineIf Finished text = text
+lineIf Outside text = []
+
+unfoldable pub lineBetween : (before after : Run) → List ℕ
+lineBetween before after =
+    lineIf (after .ending)
+    (line
+    (after .ran)
+    (pc (before .memory) (before .machine))
+    (instruction (before .memory) (before .machine))
+    (after .clocks - before .clocks)
+    (after .machine .flags))
+
+-- the lines of the first n instructions, with an empty wait list
+unfoldable pub lines : ℕ → Run → List ℕ
+lines zero start = []
+lines (suc n) start = lines n start ++ lineBetween (interpret [] n start) (interpret [] (suc n) start)
+
+-- the ending, with count and total
+abbrev pub endingWord : Ending → List ℕ
+endingWord Finished = letters "finished "
+endingWord Outside = letters "outside "
+
+unfoldable pub ending : (word : List ℕ) → (count total : ℕ) → List ℕ
+ending word count total = word ++ spaced (decimal count) ++ ended (decimal total)
+
+-- header, lines and ending of a run
+unfoldable pub runText : Run → List ℕ
+runText start =
+    let last = interpret [] mostLines start in
+    header ++ lines mostLines start ++ ending (endingWord (last .ending)) (last .ran) (last .clocks)
+
+-- all that is printed for a bad image
+unfoldable pub refusedText : Refusal → List ℕ
+refusedText why = letters "refused " ++ ended (decimal (refusalNumber why))
+
+-- The longest text: the header's 25 bytes, 9 lines of at most 28 bytes and 7 of at most 29, and an ending of at most 16
+abbrev pub longestText : ℕ
+longestText = 496

@@ -1,0 +1,25 @@
+-- Parts of a text put into a buffer one after the other: what the code's functions leave. Bytes past the buffer's end are left out.
+-- Assumes nothing.
+use Prim.Native.Nat.{ℕ, _+_, _≤_}
+use mathlib.Core.Path.{_≡_}
+use mathlib.Core.List.{List, []}
+use lib.ListN.{length}
+use lib.Seq.{sets}
+use Rattle.model.specs.declared.Machine.{Machine}
+use Rattle.model.specs.Interpreter.{begin, interpret}
+use Rattle.ledger_text.specs.Lines.{mostLines, runText}
+
+-- a text put in from a place on, and the place after it
+pub record Extends (out : List ℕ) (at : ℕ) (text out′ : List ℕ) (next : ℕ) : Type 0 where
+  pub buffer : out′ ≡ sets out at text
+  pub place : next ≡ at + length text
+
+-- the same of a short text
+pub record ExtendsBy (most : ℕ) (out : List ℕ) (at : ℕ) (text out′ : List ℕ) (next : ℕ) : Type 0 where
+  pub whole : Extends out at text out′ next
+  pub near : next ≤ at + most
+
+-- a run on a memory: its text in the buffer from the start, and the words that it leaves
+pub record RunPuts (start : Machine) (memory out memory′ out′ : List ℕ) (size : ℕ) : Type 0 where
+  pub text : Extends out 0 (runText (begin start memory 0)) out′ size
+  pub words : memory′ ≡ interpret [] mostLines (begin start memory 0) .memory

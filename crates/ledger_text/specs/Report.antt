@@ -1,0 +1,33 @@
+-- The call `report`, document 01, "The ledger program": what is printed for an image, and every word and byte lent for it afterwards.
+-- Assumes nothing.
+use Prim.Native.Nat.{ℕ}
+use mathlib.Core.Path.{_≡_}
+use mathlib.Core.Bool.{Bool, cond}
+use mathlib.Core.List.{List, []}
+use lib.Dec.{leb}
+use lib.ListN.{length}
+use Rattle.model.specs.Interpreter.{begin, interpret}
+use Rattle.model.specs.Journal.{overlay}
+use Rattle.image.specs.Reading.{Outcome, loaded, refused, readOf}
+use Rattle.ledger_text.specs.declared.ReportAnswer.{ReportAnswer}
+use Rattle.ledger_text.specs.Lines.{mostLines, runText, refusedText, longestText}
+
+-- what is printed for an image, by what came of reading it; the run is on the words of the image alone
+abbrev pub ledger : Outcome → List ℕ
+ledger (loaded version machine words) = runText (begin machine words 0)
+ledger (refused why) = refusedText why
+
+-- the words of the image at the memory's front, as the run leaves them; the others, and all of them after a refusal, stay
+abbrev pub ledgerWords : Outcome → (memory : List ℕ) → List ℕ
+ledgerWords (loaded version machine words) memory = overlay (interpret [] mostLines (begin machine words 0) .memory) memory
+ledgerWords (refused why) memory = memory
+
+-- the output has room for every ledger
+abbrev pub roomy : (out : List ℕ) → Bool
+roomy out = leb longestText (length out)
+
+-- The answer is the text's length. An output that is not roomy is answered so, whatever the image, and then nothing changes.
+pub record Reports (bytes memory out memory′ out′ : List ℕ) (r : ReportAnswer) : Type 0 where
+  pub result : r ≡ cond (roomy out) (ReportAnswer.Text (length (ledger (readOf bytes (length memory))))) ReportAnswer.ShortOutput
+  pub text : out′ ≡ cond (roomy out) (overlay (ledger (readOf bytes (length memory))) out) out
+  pub words : memory′ ≡ cond (roomy out) (ledgerWords (readOf bytes (length memory)) memory) memory

@@ -1,0 +1,112 @@
+// The parts of the text, each put into a buffer from a place on. Each answers the place after it.
+use model::Flags;
+use model::Refusal;
+use text::put_decimal;
+use text::put_hexadecimal;
+use text::put_text;
+ghost use mathlib.Core.Path.{_≡_};
+ghost use mathlib.Core.List.{_∷_, [], _++_};
+ghost use Prim.Native.Nat.{ℕ, _+_, _^_, _≤_, _<_};
+ghost use lib.ListN.{length};
+ghost use Rattle.arithmetic.specs.Words.{asNumber};
+ghost use Rattle.model.specs.Refusals.{refusalNumber};
+ghost use Rattle.text.specs.Text.{lineFeed, digit, decimal, hexadecimal};
+ghost use Rattle.ledger_text.specs.Lines.{flagDigits, line, ending, refusedText};
+ghost use Rattle.ledger_text.specs.Parts.{Extends, ExtendsBy};
+
+// A number, and the byte that ends it.
+fn put_number(out: &mut [u8], at: usize, n: u64, end: u8) -> usize
+    requires { ⌜ at < 2 ^ 32 ⌝ }
+    ensures { λ r. ⌜ ExtendsBy 21 (now (out .entry)) at (decimal n ++ end ∷ []) (now (out .exit)) r ⌝ }
+{
+    let next = at + put_decimal(out, at, n);
+    next + put_text(out, next, &[end])
+}
+
+// A word, and the byte that ends it.
+fn put_word(out: &mut [u8], at: usize, word: u32, end: u8) -> usize
+    requires { ⌜ at < 2 ^ 32 ⌝ }
+    ensures { λ r. ⌜ ExtendsBy 9 (now (out .entry)) at (hexadecimal word ++ end ∷ []) (now (out .exit)) r ⌝ }
+{
+    let next = at + put_hexadecimal(out, at, word);
+    next + put_text(out, next, &[end])
+}
+
+fn flag_digit(flag: bool) -> u8
+    ensures { λ r. ⌜ r ≡ digit (asNumber flag) ⌝ }
+{
+    if flag { b'1' } else { b'0' }
+}
+
+// The flags, and the line's end.
+fn put_flags(out: &mut [u8], at: usize, flags: Flags) -> usize
+    requires { ⌜ at < 2 ^ 32 ⌝ }
+    ensures { λ r. ⌜ ExtendsBy 5 (now (out .entry)) at (flagDigits flags ++ lineFeed ∷ []) (now (out .exit)) r ⌝ }
+{
+    let c = flag_digit(flags.carry);
+    let v = flag_digit(flags.overflow);
+    let n = flag_digit(flags.negative);
+    let z = flag_digit(flags.zero);
+    at + put_text(out, at, &[c, v, n, z, b'\n'])
+}
+
+// An instruction's line.
+pub fn put_line(
+    out: &mut [u8],
+    at: usize,
+    number: u64,
+    address: u32,
+    word: u32,
+    clocks: u64,
+    flags: Flags,
+) -> usize
+    requires { ⌜ at < 2 ^ 16 ⌝ }
+    ensures { λ r. ⌜ Extends (now (out .entry)) at (line number address word clocks flags) (now (out .exit)) r ⌝ }
+{
+    let after_number = put_number(out, at, number, b' ');
+    let after_address = put_word(out, after_number, address, b' ');
+    let after_word = put_word(out, after_address, word, b' ');
+    let after_clocks = put_number(out, after_word, clocks, b' ');
+    put_flags(out, after_clocks, flags)
+}
+
+// The ending's word, with count and total.
+pub fn put_ending(out: &mut [u8], at: usize, word: &[u8], count: u64, total: u64) -> usize
+    requires { ⌜ (at < 2 ^ 16) × (length (now word) ≤ 9) ⌝ }
+    ensures { λ r. ⌜ Extends (now (out .entry)) at (ending (now (word .entry)) count total) (now (out .exit)) r ⌝ }
+{
+    let after_word = at + put_text(out, at, word);
+    let after_count = put_number(out, after_word, count, b' ');
+    put_number(out, after_count, total, b'\n')
+}
+
+// Document 01's number of a refusal.
+fn number_of(why: Refusal) -> u64
+    ensures { λ r. ⌜ r ≡ refusalNumber why ⌝ }
+{
+    match why {
+        Refusal::NoWords => 1,
+        Refusal::TooManyWords => 2,
+        Refusal::LongWaitList => 3,
+        Refusal::BadGateState => 4,
+        Refusal::TooManyInstructions => 5,
+        Refusal::ShortJournal => 6,
+        Refusal::ShortOutput => 7,
+        Refusal::CutImage => 8,
+        Refusal::WrongTag => 9,
+        Refusal::WrongLength => 10,
+        Refusal::WrongVersion => 11,
+        Refusal::BadFlag => 12,
+        Refusal::BadWordCount => 13,
+        Refusal::ShortMemory => 14,
+        Refusal::TrailingBytes => 15,
+    }
+}
+
+// All that is printed for a bad image.
+pub fn put_refused(out: &mut [u8], why: Refusal) -> usize
+    ensures { λ r. ⌜ Extends (now (out .entry)) 0 (refusedText why) (now (out .exit)) r ⌝ }
+{
+    let after_word = put_text(out, 0, b"refused ");
+    put_number(out, after_word, number_of(why), b'\n')
+}

@@ -1,0 +1,162 @@
+-- One instruction that has its addresses: the gate machine comes, in the interpreter's clocks, to the interpreter's next machine.
+-- Assumes nothing.
+use Prim.Native.Nat.{ℕ, _+_}
+use mathlib.Core.Path.{_≡_, refl, _∙_}
+use mathlib.Core.Bool.{Bool, true, false, not, cond, _&&_, _||_}
+use mathlib.Core.List.{List}
+use native.Mathlib.Omega.{arith}
+use lib.ListN.{set}
+use Rattle.model.specs.declared.Machine.{Machine}
+use Rattle.model.specs.declared.GateState.{GateState}
+use Rattle.arithmetic.specs.Words.{asNumber}
+use Rattle.model.specs.Words.{wordAt, present, storeWord}
+use Rattle.model.specs.Operands.{operandB, registerOf, inMemory, registerWord, operandPresent}
+use Rattle.model.specs.Waits.{nextWait, positionAfter}
+use Rattle.model.specs.Interpreter as I
+use Rattle.model.specs.Gates.{Gate, gate, withRow, withRegs, withAddress, withA, withB, withAccess, addressPc, readInstruction, stepPc, compute, stepUpA, stepUpB, work, isAccess, clock}
+use Rattle.model.specs.Agreement.{machineOf}
+use Rattle.model.proofs.Reach.{Reaches, then, costs, stays, row, accessed}
+
+-- ---- an operand's read, from the row that prepared it: `mem` says whether it is in memory, and `word` is then its address
+
+module _ (waits memory : List ℕ) (read next : ℕ) (latch : ℕ → GateState → GateState) (s : GateState) (word p l : ℕ) where
+  abbrev pub prepared : Bool → GateState
+  prepared mem =
+      let t = withAccess p false l s in
+      cond mem (withRow read (withAddress word t)) (withRow next (latch word t))
+
+  abbrev pub taken : Bool → GateState
+  taken mem =
+      withRow next
+      (latch (cond mem (wordAt memory word) word)
+      (withRow (cond mem read (s .row))
+      (withAddress (cond mem word (s .address))
+      (withAccess (positionAfter waits p (asNumber mem)) false (cond mem 0 l) s))))
+
+  takes : (f : ℕ) → isAccess read ≡ true
+      → ((t : GateState) → work (gate (withRow read t) memory f) ≡ gate (withRow next (latch (wordAt memory (t .address)) (withRow read t))) memory f)
+      → ((x : ℕ) (t : GateState) → latch x t .position ≡ t .position)
+      → (mem : Bool) → (not mem || present memory word) ≡ true
+      → (g : Gate) → clock waits g ≡ gate (prepared mem) memory f → p ≡ g .state .position
+      → Reaches waits g (1 + asNumber mem) (0 + asNumber mem) (gate (taken mem) memory f)
+  unfolding positionAfter
+  takes f access reads keeps true here g e q =
+      then waits (row waits e q)
+      (accessed waits (withRow read (withAddress word s)) memory f access here p l
+      (reads (withAddress word (withAccess (nextWait waits p) false 0 s)))
+      (keeps _ (withRow read (withAddress word (withAccess (nextWait waits p) false 0 s)))))
+  takes f access reads keeps false here g e q =
+      then waits (row waits e (keeps _ (withAccess p false l s) ∙ q)) (stays waits)
+
+-- ---- the store, from the row that computed: `st` says whether there is one, `mem` whether B is in memory, at the address `word`
+
+module _ (waits memory : List ℕ) (s : GateState) (word p l : ℕ) where
+  abbrev storing : Bool → Bool → GateState
+  storing st mem =
+      withRow (cond st (cond mem 9 8) 10) (withAddress (cond mem word (s .address)) (withAccess p false l s))
+
+  abbrev written : Bool → Bool → GateState
+  written st mem =
+      withRow 10
+      (withRegs (cond st (cond mem (s .regs) (set (s .regs) (registerOf (operandB (s .instruction))) (s .result))) (s .regs))
+      (withAddress (cond mem word (s .address))
+      (withAccess (positionAfter waits p (asNumber (st && mem))) false (cond (st && mem) 0 l) s)))
+
+  writes : (f : ℕ) (st mem : Bool) → (not mem || present memory word) ≡ true
+      → Reaches waits (gate (storing st mem) memory f) (asNumber st) (asNumber (st && mem))
+      (gate (written st mem) (cond st (cond mem (storeWord memory word (s .result)) memory) memory) f)
+  unfolding positionAfter clock work isAccess
+  writes f true true here = accessed waits (withRow 9 (withAddress word s)) memory f refl here p l refl refl
+  writes f true false here = row waits refl refl
+  writes f false true here = stays waits
+  writes f false false here = stays waits
+
+-- ---- the whole instruction, from row 0 with no access begun
+
+abbrev pub idle : GateState → GateState
+idle s = withRow 0 (withAccess (s .position) false (s .left) s)
+
+module _ (waits memory : List ℕ) (s : GateState) where
+  abbrev m : Machine
+  m = machineOf s
+
+  -- the operands' register words, and whether what they address is there
+  abbrev pub wordA : ℕ
+  wordA = registerWord (I.opA memory m) (I.regsA memory m)
+
+  abbrev pub wordB : ℕ
+  wordB = registerWord (I.opB memory m) (I.regsB memory m)
+
+  abbrev pub hasA : Bool
+  hasA = operandPresent (I.opA memory m) (I.regsA memory m) memory
+
+  abbrev pub hasB : Bool
+  hasB = operandPresent (I.opB memory m) (I.regsB memory m) memory
+
+  -- the state in row 3, then before and in row 5, 7 and 10
+  abbrev pub fetched : GateState
+  fetched =
+      stepPc memory (readInstruction memory (withAccess (nextWait waits (s .position)) false 0 (addressPc memory (idle s))))
+
+  abbrev pub downA : GateState
+  downA = withRegs (I.regsA memory m) fetched
+
+  abbrev pub takenA : GateState
+  takenA = taken waits memory 4 5 withA downA wordA (downA .position) (downA .left) (inMemory (I.opA memory m))
+
+  abbrev pub downB : GateState
+  downB = withRegs (I.regsB memory m) takenA
+
+  abbrev pub takenB : GateState
+  takenB = taken waits memory 6 7 withB downB wordB (downB .position) (downB .left) (inMemory (I.opB memory m))
+
+  abbrev computed : GateState
+  computed = withAddress (takenA .address) (compute memory takenB)
+
+  abbrev writtenB : GateState
+  writtenB =
+      written waits memory computed wordB (computed .position) (computed .left) (I.isStored memory m) (inMemory (I.opB memory m))
+
+  module _ (f : ℕ) where
+    abbrev pub next : Gate
+    next = stepUpB (gate (stepUpA memory writtenB) (I.nextMemory memory m) f)
+
+    pub fetches : present memory (I.pc memory m) ≡ true → Reaches waits (gate (idle s) memory f) 3 1 (gate fetched memory f)
+    unfolding clock work isAccess
+    fetches here =
+        then waits {h = gate (addressPc memory (idle s)) memory f} (row waits refl refl)
+        (then waits (accessed waits (addressPc memory (idle s)) memory f refl here (s .position) (s .left) refl refl)
+        (row waits refl refl))
+
+    pub takesA : hasA ≡ true
+        → Reaches waits (gate fetched memory f) (1 + asNumber (inMemory (I.opA memory m))) (0 + asNumber (inMemory (I.opA memory m))) (gate takenA memory f)
+    unfolding clock work isAccess
+    takesA here =
+        takes waits memory 4 5 withA downA wordA (downA .position) (downA .left) f refl (λ t. refl) (λ x t. refl)
+        (inMemory (I.opA memory m)) here (gate fetched memory f) refl refl
+
+    takesB : hasB ≡ true
+        → Reaches waits (gate takenA memory f) (1 + asNumber (inMemory (I.opB memory m))) (0 + asNumber (inMemory (I.opB memory m))) (gate takenB memory f)
+    unfolding clock work isAccess
+    takesB here =
+        takes waits memory 6 7 withB downB wordB (downB .position) (downB .left) f refl (λ t. refl) (λ x t. refl)
+        (inMemory (I.opB memory m)) here (gate takenA memory f) refl refl
+
+    writesB : hasB ≡ true
+        → Reaches waits (gate takenB memory f) (1 + asNumber (I.isStored memory m)) (0 + asNumber (I.isStored memory m && inMemory (I.opB memory m)))
+        (gate writtenB (I.nextMemory memory m) f)
+    unfolding clock work isAccess
+    writesB here =
+        then waits (row waits refl refl)
+        (writes waits memory computed wordB (computed .position) (computed .left) f (I.isStored memory m) (inMemory (I.opB memory m)) here)
+
+    finishes : Reaches waits (gate writtenB (I.nextMemory memory m) f) 2 0 next
+    unfolding clock work isAccess
+    finishes =
+        then waits {h = gate (stepUpA memory writtenB) (I.nextMemory memory m) f} (row waits refl refl) (row waits refl refl)
+
+    pub executes : present memory (I.pc memory m) ≡ true → hasA ≡ true → hasB ≡ true
+        → Reaches waits (gate (idle s) memory f) (I.baseClocks memory m) (I.accesses memory m) next
+    executes hereI hereA hereB =
+        costs waits (omega arith) (omega arith)
+        (then waits (fetches hereI) (then waits (takesA hereA) (then waits (takesB hereB) (then waits (writesB hereB) finishes))))

@@ -1,0 +1,51 @@
+-- What an instruction has the arithmetic unit do, the flags and the storing condition. The unit's answers are of the crate arithmetic.
+-- Assumes nothing.
+use Prim.Native.Nat.{ℕ}
+use mathlib.Core.Bool.{Bool, true, false, not, cond}
+use mathlib.Core.List.{List, [], _∷_}
+use lib.Dec.{eqb}
+use lib.ListN.{getD}
+use Rattle.arithmetic.specs.declared.AluOut.{AluOut}
+use Rattle.arithmetic.specs.Words.{topOf}
+use Rattle.arithmetic.specs.Alu.{aluOf}
+use Rattle.model.specs.declared.Flags.{Flags}
+use Rattle.model.specs.Words.{field, bit}
+
+unfoldable pub isMove : ℕ → Bool
+isMove w = bit w 15
+
+unfoldable pub operation : ℕ → ℕ
+operation w = field w 16 4
+
+-- what the unit gives for instruction w; a move is operation 0
+unfoldable pub alu : ℕ → Flags → ℕ → ℕ → AluOut
+alu w flags a b = aluOf (cond (isMove w) 0 (operation w)) a b (flags .carry)
+
+-- the flags that instruction w permits are taken from the unit, the others stay
+unfoldable pub flagsAfter : ℕ → Flags → AluOut → Flags
+flagsAfter w flags out =
+    record {
+      carry = cond (bit w 13) (out .carry) (flags .carry);
+      overflow = cond (bit w 12) (out .overflow) (flags .overflow);
+      negative = cond (bit w 11) (topOf 31 (out .result)) (flags .negative);
+      zero = cond (bit w 10) (eqb (out .result) 0) (flags .zero);
+    }
+
+-- a move's condition by operation number, on the flags before the instruction; 8 to 15 is always
+abbrev pub condition : ℕ → Flags → Bool
+condition op flags =
+    getD
+    (not (flags .carry)
+    ∷ flags .carry
+    ∷ not (flags .overflow)
+    ∷ flags .overflow
+    ∷ not (flags .zero)
+    ∷ flags .zero
+    ∷ not (flags .negative)
+    ∷ flags .negative
+    ∷ [])
+    op
+    true
+
+unfoldable pub stores : ℕ → Flags → Bool
+stores w flags = cond (isMove w) (condition (operation w) flags) true

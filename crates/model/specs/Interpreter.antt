@@ -1,0 +1,126 @@
+-- The interpreter: one instruction in the order (i) to (vi) of document 01, its clocks, and the run of n instructions.
+-- Assumes nothing.
+use Prim.Native.Nat.{ℕ, zero, suc, _+_}
+use mathlib.Core.Bool.{Bool, cond, _&&_}
+use mathlib.Core.List.{List}
+use Rattle.model.specs.declared.Machine.{Machine}
+use Rattle.model.specs.declared.Operand.{Operand}
+use Rattle.model.specs.declared.Ending.{Ending}
+use Rattle.model.specs.declared.Ending.the-variants.{Finished, Outside}
+use Rattle.arithmetic.specs.Words.{asNumber}
+use Rattle.model.specs.Words.{inc, wordAt, present}
+use Rattle.model.specs.Operands.{operandA, operandB, inMemory, stepped, stepDown, stepUp, operandPresent, operandValue, storeInRegister, storeInMemory}
+use Rattle.arithmetic.specs.declared.AluOut.{AluOut}
+use Rattle.model.specs.Alu.{alu, flagsAfter, stores}
+use Rattle.model.specs.Waits.{waitSum, positionAfter}
+
+-- ---- one instruction, from a memory and a machine
+
+module _ (memory : List ℕ) (m : Machine) where
+  -- (i) fetch
+  abbrev pub pc : ℕ
+  pc = wordAt (m .regs) 0
+
+  abbrev pub instruction : ℕ
+  instruction = wordAt memory pc
+
+  abbrev pub opA : Operand
+  opA = operandA instruction
+
+  abbrev pub opB : Operand
+  opB = operandB instruction
+
+  abbrev pub regsFetched : List ℕ
+  regsFetched = stepped inc 0 (m .regs)
+
+  -- (ii) and (iii) step down and take A, then B
+  abbrev pub regsA : List ℕ
+  regsA = stepDown opA regsFetched
+
+  abbrev pub valueA : ℕ
+  valueA = operandValue opA regsA memory
+
+  abbrev pub regsB : List ℕ
+  regsB = stepDown opB regsA
+
+  abbrev pub valueB : ℕ
+  valueB = operandValue opB regsB memory
+
+  -- every address that it reads is there
+  abbrev pub inside : Bool
+  inside = present memory pc && operandPresent opA regsA memory && operandPresent opB regsB memory
+
+  -- (iv) compute and store
+  abbrev pub aluOut : AluOut
+  aluOut = alu instruction (m .flags) valueA valueB
+
+  abbrev pub isStored : Bool
+  isStored = stores instruction (m .flags)
+
+  abbrev pub regsStored : List ℕ
+  regsStored = cond isStored (storeInRegister opB (aluOut .result) regsB) regsB
+
+  abbrev pub nextMemory : List ℕ
+  nextMemory = cond isStored (storeInMemory opB (aluOut .result) regsB memory) memory
+
+  -- (v) and (vi) step A, then B up
+  abbrev pub nextMachine : Machine
+  nextMachine =
+      record { regs = stepUp opB (stepUp opA regsStored); flags = flagsAfter instruction (m .flags) aluOut }
+
+  -- clocks without waits, and the number of accesses
+  abbrev pub baseClocks : ℕ
+  baseClocks = 8 + asNumber (inMemory opA) + asNumber (inMemory opB) + asNumber isStored
+
+  abbrev pub accesses : ℕ
+  accesses = 1 + asNumber (inMemory opA) + asNumber (inMemory opB) + asNumber (isStored && inMemory opB)
+
+-- ---- the run of n instructions
+
+-- a run so far: the instructions that ran, their clocks, and the position in the wait list
+pub record Run : Type 0 where
+  pub machine : Machine
+  pub memory : List ℕ
+  pub position : ℕ
+  pub ran : ℕ
+  pub clocks : ℕ
+  pub ending : Ending
+
+abbrev pub begin : Machine → List ℕ → ℕ → Run
+begin m memory position =
+    record { machine = m; memory = memory; position = position; ran = 0; clocks = 0; ending = Finished }
+
+-- one more instruction, and the stop before one
+unfoldable pub execute : List ℕ → Run → Run
+execute waits r =
+    let n = accesses (r .memory) (r .machine) in
+    record {
+      machine = nextMachine (r .memory) (r .machine);
+      memory = nextMemory (r .memory) (r .machine);
+      position = positionAfter waits (r .position) n;
+      ran = r .ran + 1;
+      clocks = r .clocks + (baseClocks (r .memory) (r .machine) + waitSum waits (r .position) n);
+      ending = Finished;
+    }
+
+unfoldable pub stop : Ending → Run → Run
+stop e r =
+    record {
+      machine = r .machine;
+      memory = r .memory;
+      position = r .position;
+      ran = r .ran;
+      clocks = r .clocks;
+      ending = e;
+    }
+
+unfoldable pub advance : List ℕ → Run → Run
+advance waits r =
+    elim (r .ending) [
+      | Finished ↦ cond (inside (r .memory) (r .machine)) (execute waits r) (stop Outside r)
+      | Outside ↦ r
+    ]
+
+unfoldable pub interpret : List ℕ → ℕ → Run → Run
+interpret waits zero r = r
+interpret waits (suc n) r = advance waits (interpret waits n r)

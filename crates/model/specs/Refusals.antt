@@ -1,0 +1,85 @@
+-- Why a call is turned down: the numbers of document 01, its limits, and the first reason that applies.
+-- Assumes nothing.
+use Prim.Native.Nat.{ℕ, _*_}
+use mathlib.Core.Bool.{Bool, true, false, cond, _&&_}
+use mathlib.Core.List.{List}
+use lib.Dec.{eqb, ltb, leb}
+use lib.ListN.{length}
+use Rattle.model.specs.declared.GateState.{GateState}
+use Rattle.model.specs.declared.Refusal.{Refusal}
+use Rattle.model.specs.declared.Refusal.the-variants.{NoWords, TooManyWords, LongWaitList, BadGateState, TooManyInstructions, ShortJournal, ShortOutput, CutImage, WrongTag, WrongLength, WrongVersion, BadFlag, BadWordCount, ShortMemory, TrailingBytes}
+use Rattle.model.specs.declared.Verdict.{Verdict}
+use Rattle.model.specs.declared.Verdict.the-variants.{Accepted, Refused}
+use Rattle.model.specs.Gates.{isAccess}
+
+abbrev pub refusalNumber : Refusal → ℕ
+refusalNumber NoWords = 1
+refusalNumber TooManyWords = 2
+refusalNumber LongWaitList = 3
+refusalNumber BadGateState = 4
+refusalNumber TooManyInstructions = 5
+refusalNumber ShortJournal = 6
+refusalNumber ShortOutput = 7
+refusalNumber CutImage = 8
+refusalNumber WrongTag = 9
+refusalNumber WrongLength = 10
+refusalNumber WrongVersion = 11
+refusalNumber BadFlag = 12
+refusalNumber BadWordCount = 13
+refusalNumber ShortMemory = 14
+refusalNumber TrailingBytes = 15
+
+-- 0 for a call that is carried out
+abbrev pub verdictNumber : Verdict → ℕ
+verdictNumber Accepted = 0
+verdictNumber (Refused why) = refusalNumber why
+
+abbrev pub mostWords : ℕ
+mostWords = 16_777_216
+
+abbrev pub mostWaits : ℕ
+mostWaits = 65_536
+
+abbrev pub mostInstructions : ℕ
+mostInstructions = 65_536
+
+-- refused unless something holds; of two verdicts the first refusal
+abbrev pub demand : Bool → Refusal → Verdict
+demand true why = Accepted
+demand false why = Refused why
+
+infixr 20 _then_
+abbrev pub _then_ : Verdict → Verdict → Verdict
+Accepted then v = v
+Refused why then v = Refused why
+
+-- 1 and 2, of the memory that a run or the writer is lent
+abbrev pub memoryFits : List ℕ → Verdict
+memoryFits memory = demand (ltb 0 (length memory)) NoWords then demand (leb (length memory) mostWords) TooManyWords
+
+-- 3
+abbrev pub waitsFit : List ℕ → Verdict
+waitsFit waits = demand (leb (length waits) mostWaits) LongWaitList
+
+-- 4: a row above 11, a position above 65,536, an access begun outside rows 1, 4, 6, 9 or with no clocks left, clocks left with none begun
+abbrev pub stateFits : GateState → Verdict
+stateFits s =
+    demand
+    (leb (s .row) 11 && leb (s .position) mostWaits && cond (s .begun) (isAccess (s .row) && ltb 0 (s .left)) (eqb (s .left) 0))
+    BadGateState
+
+-- 5 and 6, of a file run of n instructions
+abbrev pub journalFits : List ℕ → ℕ → Verdict
+journalFits journal n =
+    demand (leb n mostInstructions) TooManyInstructions then demand (leb (2 * n) (length journal)) ShortJournal
+
+-- ---- the first reason to turn down a run, a file run, a gate run
+
+unfoldable pub runVerdict : (memory waits : List ℕ) → Verdict
+runVerdict memory waits = memoryFits memory then waitsFit waits
+
+unfoldable pub fileVerdict : (memory journal : List ℕ) → ℕ → Verdict
+fileVerdict memory journal n = memoryFits memory then journalFits journal n
+
+unfoldable pub gateVerdict : (memory waits : List ℕ) → GateState → Verdict
+gateVerdict memory waits s = memoryFits memory then waitsFit waits then stateFits s

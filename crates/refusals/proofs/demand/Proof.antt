@@ -1,0 +1,12 @@
+use borrow.Author.Needs.{needs}
+use Rattle.refusals.proofs.demand.Statement.{statement}
+use Rattle.refusals.proofs.demand.Tie as tie
+
+returns : tie.Need-returns
+returns c = search needs
+
+returns-2 : tie.Need-returns-2
+returns-2 c = rw (c .if1 .left)
+
+pub demand-spec : {M : Type 1} → statement M
+demand-spec = tie.close (tie.spec returns returns-2)

@@ -1,0 +1,2 @@
+pub mod OperandLaws
+pub mod StepLaws

@@ -1,0 +1,165 @@
+-- One instruction: its operands taken or the registers put back, its store, and the whole.
+-- Assumes nothing.
+use Prim.Native.Nat.{ℕ, _≤_, _<_}
+use mathlib.Core.Path.{_≡_, sym, ap, _∙_}
+use mathlib.Core.Bool.{Bool, true, false, cond, _&&_}
+use mathlib.Core.List.{List}
+use native.Mathlib.Omega.{arith}
+use lib.ListN.{length, set}
+use lib.Seq.{set-getD, set-set}
+use borrow.Author.Tests.{lt-ltb, le-ltb}
+use Rattle.model.specs.declared.Operand.{Operand}
+use Rattle.model.specs.Words.{inc, wordAt, present, storeWord}
+use Rattle.model.specs.Operands.{registerOf, inMemory, stepped, stepDown, registerWord, operandPresent}
+use Rattle.model.specs.Interpreter as I
+use Rattle.step.specs.declared.take.Taken.{Taken}
+use Rattle.step.specs.declared.fetch.Fetched.{Fetched}
+use Rattle.step.specs.declared.Stepped.{Stepped}
+use Rattle.step.specs.Steps.{takenOf, Takes, bare, nothing, fetchedOf, Fetches, Notes, Puts, Finishes, stoppedAt, Steps}
+use Rattle.step.proofs.OperandLaws.{put-back}
+
+pub cond-true : {A : Type 0} {t : Bool} (x y : A) → t ≡ true → x ≡ cond t x y
+cond-true x y e = rw e
+
+pub cond-false : {A : Type 0} {t : Bool} (x y : A) → t ≡ false → y ≡ cond t x y
+cond-false x y e = rw e
+
+-- an operand taken, in the definition's terms, and its registers
+pub took : {o q : Operand} {r s d : List ℕ} {t : Taken} (memory : List ℕ) → o ≡ q → r ≡ s → Takes o r memory d t
+    → t ≡ takenOf q (stepDown q s) memory
+took memory p e h = rw (h .result, p, e)
+
+module _ {o : Operand} {r memory d : List ℕ} {t : Taken} (h : Takes o r memory d t) where
+  found : t .present ≡ operandPresent o (stepDown o r) memory
+  found = ap (λ (t : Taken). t .present) (h .result)
+
+  pub took-down : t .present ≡ true → d ≡ stepDown o r
+  took-down e = h .registers ∙ sym (cond-true (stepDown o r) r (sym found ∙ e))
+
+  pub took-back : t .present ≡ false → d ≡ r
+  took-back e = h .registers ∙ sym (cond-false (stepDown o r) r (sym found ∙ e))
+
+pub down-eq : {o q : Operand} {r s d : List ℕ} → o ≡ q → r ≡ s → d ≡ stepDown o r → d ≡ stepDown q s
+down-eq p e f = rw (f, p, e)
+
+-- what was stepped down is put back
+pub restored : (o : Operand) {r d b : List ℕ} {x : ℕ} → x ≡ registerWord o r → d ≡ stepDown o r → b ≡ set d (registerOf o) x → b ≡ r
+restored o {r} e f g = rw (g, f, e) (put-back o r)
+
+module _ (o : Operand) (r memory : List ℕ) {d : List ℕ} {t : Taken} (e : t ≡ takenOf o d memory) (f : d ≡ stepDown o r) where
+  looked : t ≡ takenOf o (stepDown o r) memory
+  looked = e ∙ ap (λ (d : List ℕ). takenOf o d memory) f
+
+  there : t .present ≡ operandPresent o (stepDown o r) memory
+  there = ap (λ (t : Taken). t .present) looked
+
+  pub takes-there : t .present ≡ true → Takes o r memory d t
+  takes-there h = record { result = looked; registers = f ∙ cond-true (stepDown o r) r (sym there ∙ h) }
+
+  pub takes-back : {b : List ℕ} → t .present ≡ false → b ≡ r → Takes o r memory b t
+  takes-back h g = record { result = looked; registers = g ∙ cond-false (stepDown o r) r (sym there ∙ h) }
+
+pub restored-pc : (regs : List ℕ) {r : List ℕ} → r ≡ stepped inc 0 regs → set r 0 (wordAt regs 0) ≡ regs
+restored-pc regs e = rw e (set-set regs 0 _ _ ∙ set-getD regs 0 0)
+
+-- whether the fetch address is there
+pub fetch-here : (memory regs : List ℕ) {i : ℕ} → i ≡ wordAt regs 0 → i < length memory → present memory (wordAt regs 0) ≡ true
+fetch-here memory regs e h = lt-ltb (wordAt regs 0) (length memory) (omega arith)
+
+pub fetch-gone : (memory regs : List ℕ) {i : ℕ} → i ≡ wordAt regs 0 → length memory ≤ i → present memory (wordAt regs 0) ≡ false
+fetch-gone memory regs e h = le-ltb (wordAt regs 0) (length memory) (omega arith)
+
+-- ---- the store
+
+pub puts-none : (f : Fetched) (x pairs : ℕ) (regs memory journal : List ℕ) {t : Bool} → t ≡ false → Puts t f x pairs regs memory journal regs memory journal pairs
+puts-none f x pairs regs memory journal e =
+    record { registers = rw e; words = rw e; places = rw e; count = rw e }
+
+pub puts-memory : (f : Fetched) (x pairs : ℕ) (regs memory journal : List ℕ) {t : Bool} {i r : ℕ} {memory′ journal′ : List ℕ}
+    → t ≡ true → inMemory (f .ob) ≡ true → i ≡ f .place → memory′ ≡ storeWord memory i x → Notes journal pairs (f .place) (f .b) journal′ r
+    → Puts t f x pairs regs memory journal regs memory′ journal′ r
+puts-memory f x pairs regs memory journal e m p q n =
+    record { registers = rw (e, m); words = rw (e, m, q, p); places = rw (e, m) (n .places); count = rw (e, m) (n .count) }
+
+pub puts-register : (f : Fetched) (x pairs : ℕ) (regs memory journal : List ℕ) {t : Bool} {regs′ : List ℕ} → t ≡ true → inMemory (f .ob) ≡ false
+    → regs′ ≡ set regs (registerOf (f .ob)) x → Puts t f x pairs regs memory journal regs′ memory journal pairs
+puts-register f x pairs regs memory journal e m q =
+    record { registers = rw (e, m) q; words = rw (e, m); places = rw (e, m); count = rw (e, m) }
+
+-- ---- the fetch, and the whole instruction
+
+module _ (memory regs : List ℕ) where
+  abbrev hasA : Bool
+  hasA = operandPresent (I.opA memory (bare regs)) (I.regsA memory (bare regs)) memory
+
+  abbrev hasB : Bool
+  hasB = operandPresent (I.opB memory (bare regs)) (I.regsB memory (bare regs)) memory
+
+  pub none : {regs′ : List ℕ} {f : Fetched} → I.inside memory (bare regs) ≡ false → f ≡ nothing → regs′ ≡ regs → Fetches memory regs regs′ f
+  none h e p =
+      record {
+        result = e ∙ cond-false (fetchedOf memory regs) nothing h;
+        registers = p ∙ cond-false (I.regsB memory (bare regs)) regs h;
+      }
+
+  pub all : {regs′ : List ℕ} {f : Fetched} → I.inside memory (bare regs) ≡ true → f ≡ fetchedOf memory regs → regs′ ≡ I.regsB memory (bare regs)
+      → Fetches memory regs regs′ f
+  all h e p =
+      record {
+        result = e ∙ cond-true (fetchedOf memory regs) nothing h;
+        registers = p ∙ cond-true (I.regsB memory (bare regs)) regs h;
+      }
+
+  pub fetched-eq : {i : ℕ} {t u : Taken} → i ≡ wordAt regs 0
+      → t ≡ takenOf (I.opA memory (bare regs)) (I.regsA memory (bare regs)) memory
+      → u ≡ takenOf (I.opB memory (bare regs)) (I.regsB memory (bare regs)) memory
+      → {oa ob : Operand} → oa ≡ I.opA memory (bare regs) → ob ≡ I.opB memory (bare regs)
+      → record { inside = true; word = wordAt memory i; oa = oa; ob = ob; a = t .value; b = u .value; place = u .word } ≡ fetchedOf memory regs
+  fetched-eq e p q r s = rw (e, p, q, r, s)
+
+  pub outside-pc : present memory (wordAt regs 0) ≡ false → I.inside memory (bare regs) ≡ false
+  outside-pc p = ap (λ (t : Bool). t && hasA && hasB) p
+
+  pub outside-a : {t : Taken} → present memory (wordAt regs 0) ≡ true → t ≡ takenOf (I.opA memory (bare regs)) (I.regsA memory (bare regs)) memory
+      → t .present ≡ false → I.inside memory (bare regs) ≡ false
+  outside-a p e q = ap (λ (t : Bool). t && hasA && hasB) p ∙ ap (λ (t : Bool). t && hasB) (sym (ap (λ (t : Taken). t .present) e) ∙ q)
+
+  pub with-b : {t u : Taken} {v : Bool} → present memory (wordAt regs 0) ≡ true
+      → t ≡ takenOf (I.opA memory (bare regs)) (I.regsA memory (bare regs)) memory → t .present ≡ true
+      → u ≡ takenOf (I.opB memory (bare regs)) (I.regsB memory (bare regs)) memory → u .present ≡ v
+      → I.inside memory (bare regs) ≡ v
+  with-b p e q f r =
+      ap (λ (t : Bool). t && hasA && hasB) p
+      ∙ ap (λ (t : Bool). t && hasB) (sym (ap (λ (t : Taken). t .present) e) ∙ q)
+      ∙ (sym (ap (λ (t : Taken). t .present) f) ∙ r)
+
+  -- the fetch says whether the instruction runs
+  tells : (t : Bool) {f : Fetched} {v : Bool} → f ≡ cond t (fetchedOf memory regs) nothing → f .inside ≡ v → t ≡ v
+  tells true e h = sym (ap (λ (f : Fetched). f .inside) e) ∙ h
+  tells false e h = sym (ap (λ (f : Fetched). f .inside) e) ∙ h
+
+  module _ (journal : List ℕ) (pairs flags : ℕ) where
+    pub stopped : {r1 : List ℕ} {f : Fetched} {s : Stepped} → Fetches memory regs r1 f → f .inside ≡ false → s ≡ stoppedAt flags pairs
+        → Steps regs memory journal pairs flags r1 memory journal s
+    stopped h e p =
+        let t : I.inside memory (bare regs) ≡ false = tells (I.inside memory (bare regs)) (h .result) e in
+        record {
+          result = p ∙ cond-false _ (stoppedAt flags pairs) t;
+          registers = h .registers ∙ sym (cond-false (I.regsB memory (bare regs)) regs t) ∙ cond-false _ regs t;
+          words = cond-false _ memory t;
+          places = cond-false _ journal t;
+        }
+
+    pub stepped-all : {r1 r2 memory′ journal′ : List ℕ} {f : Fetched} {s : Stepped} → Fetches memory regs r1 f → f .inside ≡ true
+        → Finishes r1 memory journal pairs flags f r2 memory′ journal′ s
+        → Steps regs memory journal pairs flags r2 memory′ journal′ s
+    stepped-all {r1} {r2} {memory′} {journal′} {f} {s} h e g =
+        let t : I.inside memory (bare regs) ≡ true = tells (I.inside memory (bare regs)) (h .result) e in
+        let p : f ≡ fetchedOf memory regs = h .result ∙ sym (cond-true (fetchedOf memory regs) nothing t) in
+        let q : r1 ≡ I.regsB memory (bare regs) = h .registers ∙ sym (cond-true (I.regsB memory (bare regs)) regs t) in
+        record {
+          result = (g .result ∙ rw p) ∙ cond-true _ (stoppedAt flags pairs) t;
+          registers = (g .registers ∙ rw (p, q)) ∙ cond-true _ regs t;
+          words = (g .words ∙ rw p) ∙ cond-true _ memory t;
+          places = (g .places ∙ rw p) ∙ cond-true _ journal t;
+        }

@@ -1,0 +1,34 @@
+use mathlib.Core.Path.{_∙_, sym}
+use borrow.Author.Needs.{needs}
+use Rattle.step.proofs.OperandLaws.{taken-memory, taken-direct}
+use Rattle.step.proofs.take.look.Statement.{statement}
+use Rattle.step.proofs.take.look.Tie as tie
+
+register-word-requires : tie.Need-register-word-requires
+register-word-requires c κs = search needs
+
+in-memory-requires : tie.Need-in-memory-requires
+in-memory-requires c κs = search needs
+
+wide-requires : tie.Need-wide-requires
+wide-requires c κs = search needs
+
+load-requires : tie.Need-load-requires
+load-requires c κs = search needs
+
+returns : tie.Need-returns
+returns c = taken-memory (c .before .before .before .before .before .before .args .o) (c .before .before .before .before .before .before .args .regs .now) (c .before .before .before .before .before .before .args .memory .now) (sym (c .before .before .before .in-memory .ensures) ∙ c .before .before .if1 .taken) (c .before .before .before .before .register-word .ensures) (c .before .wide .ensures) (c .load .ensures)
+
+returns-2 : tie.Need-returns-2
+returns-2 c = taken-direct (c .before .before .before .before .args .o) (c .before .before .before .before .args .regs .now) (c .before .before .before .before .args .memory .now) (sym (c .before .in-memory .ensures) ∙ c .if1 .left) (c .before .before .register-word .ensures)
+
+pub look-spec : {M : Type 1} → statement M
+look-spec =
+    tie.close
+    (tie.spec
+    register-word-requires
+    in-memory-requires
+    wide-requires
+    load-requires
+    returns
+    returns-2)

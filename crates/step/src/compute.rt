@@ -1,0 +1,15 @@
+// What an instruction has the arithmetic unit do.
+use arithmetic::AluOut;
+use arithmetic::word_unit;
+use instruction::effect::unit_operation;
+use instruction::flags::carry;
+ghost use mathlib.Core.Path.{_≡_};
+ghost use Rattle.model.specs.Alu.{alu};
+ghost use Rattle.instruction.specs.Packed.{flagsOf};
+
+// Result, carry and overflow.
+pub fn compute(word: u32, flags: u32, a: u32, b: u32) -> AluOut
+    ensures { λ r. ⌜ r ≡ alu word (flagsOf flags) a b ⌝ }
+{
+    word_unit(unit_operation(word), a, b, carry(flags))
+}

@@ -1,0 +1,72 @@
+// The instruction and its operands, taken: (i) to (iii).
+use super::take::take;
+use instruction::memory::wide;
+use instruction::operand::operand_a;
+use instruction::operand::operand_b;
+use instruction::registers::register_word;
+use instruction::registers::set_register;
+use instruction::registers::step_pc;
+use model::Operand;
+ghost use mathlib.Core.Path.{_≡_};
+ghost use Rattle.step.specs.Steps.{nothing, Fetches};
+
+// The word, its operands A and B with their values, and the address of a B in memory.
+pub struct Fetched {
+    pub inside: bool,
+    pub word: u32,
+    pub oa: Operand,
+    pub ob: Operand,
+    pub a: u32,
+    pub b: u32,
+    pub place: u32,
+}
+
+fn absent() -> Fetched
+    ensures { λ r. ⌜ r ≡ nothing ⌝ }
+{
+    Fetched {
+        inside: false,
+        word: 0,
+        oa: Operand::Direct(0),
+        ob: Operand::Direct(0),
+        a: 0,
+        b: 0,
+        place: 0,
+    }
+}
+
+// Where an address is absent the registers are put back, the last step first.
+pub fn fetch(regs: &mut [u32; 8], memory: &[u32]) -> Fetched
+    ensures { λ r. ⌜ Fetches (now (memory .entry)) (now (regs .entry)) (now (regs .exit)) r ⌝ }
+{
+    let pc = regs[0];
+    let at = wide(pc);
+    if memory.len() <= at {
+        return absent();
+    }
+    let word = memory[at];
+    step_pc(&mut *regs);
+    let oa = operand_a(word);
+    let old_a = register_word(oa, &*regs);
+    let a = take(oa, &mut *regs, memory);
+    if !a.present {
+        regs[0] = pc;
+        return absent();
+    }
+    let ob = operand_b(word);
+    let b = take(ob, &mut *regs, memory);
+    if !b.present {
+        set_register(oa, old_a, &mut *regs);
+        regs[0] = pc;
+        return absent();
+    }
+    Fetched {
+        inside: true,
+        word,
+        oa,
+        ob,
+        a: a.value,
+        b: b.value,
+        place: b.word,
+    }
+}

@@ -1,0 +1,46 @@
+// Compute, set flags, store, step up: (iv) to (vi).
+use super::Stepped;
+use super::compute::compute;
+use super::fetch::Fetched;
+use super::put::put;
+use instruction::effect::set_flags;
+use instruction::effect::stores_on;
+use instruction::registers::step_up;
+ghost use Rattle.step.specs.Steps.{Finishes};
+
+// The storing condition is read from the old flags, and the new ones are made before the store, so that little is carried past it.
+pub fn finish(
+    regs: &mut [u32; 8],
+    memory: &mut [u32],
+    journal: &mut [u32],
+    pairs: u32,
+    flags: u32,
+    f: Fetched,
+) -> Stepped
+    ensures { λ r. ⌜ Finishes (now (regs .entry)) (now (memory .entry)) (now (journal .entry)) pairs flags f (now (regs .exit)) (now (memory .exit)) (now (journal .exit)) r ⌝ }
+{
+    let word = f.word;
+    let oa = f.oa;
+    let ob = f.ob;
+    let stored = stores_on(word, flags);
+    let out = compute(word, flags, f.a, f.b);
+    let after = set_flags(word, flags, out);
+    let noted = put(
+        stored,
+        f,
+        out.result,
+        pairs,
+        &mut *regs,
+        &mut *memory,
+        &mut *journal,
+    );
+    step_up(oa, &mut *regs);
+    step_up(ob, &mut *regs);
+    Stepped {
+        inside: true,
+        flags: after,
+        word,
+        stored,
+        pairs: noted,
+    }
+}

@@ -1,0 +1,50 @@
+// One instruction of the machine, in the order (i) to (vi) of document 01.
+mod compute;
+mod fetch;
+mod finish;
+mod put;
+mod take;
+
+use fetch::fetch;
+use finish::finish;
+ghost use mathlib.Core.Path.{_≡_};
+ghost use Rattle.step.specs.Steps.{stoppedAt, Steps};
+
+// What one instruction leaves: the flags, packed; its word and whether its result was stored, which decide its clocks and accesses; the pairs in the journal.
+// Where an address is absent, inside is false and nothing has changed.
+pub struct Stepped {
+    pub inside: bool,
+    pub flags: u32,
+    pub word: u32,
+    pub stored: bool,
+    pub pairs: u32,
+}
+
+fn outside(flags: u32, pairs: u32) -> Stepped
+    ensures { λ r. ⌜ r ≡ stoppedAt flags pairs ⌝ }
+{
+    Stepped {
+        inside: false,
+        flags,
+        word: 0,
+        stored: false,
+        pairs,
+    }
+}
+
+// A store to memory is noted as a pair of address and former word, where the journal has room for it.
+pub fn step(
+    regs: &mut [u32; 8],
+    memory: &mut [u32],
+    journal: &mut [u32],
+    pairs: u32,
+    flags: u32,
+) -> Stepped
+    ensures { λ r. ⌜ Steps (now (regs .entry)) (now (memory .entry)) (now (journal .entry)) pairs flags (now (regs .exit)) (now (memory .exit)) (now (journal .exit)) r ⌝ }
+{
+    let f = fetch(&mut *regs, &memory[..]);
+    if f.inside {
+        return finish(&mut *regs, &mut *memory, &mut *journal, pairs, flags, f);
+    }
+    outside(flags, pairs)
+}

@@ -1,0 +1,51 @@
+// An operand, taken: its register stepped down, its register's word, its value.
+use instruction::memory::load;
+use instruction::memory::wide;
+use instruction::operand::in_memory;
+use instruction::registers::register_word;
+use instruction::registers::set_register;
+use instruction::registers::step_down;
+use model::Operand;
+ghost use mathlib.Core.Path.{_≡_};
+ghost use Rattle.step.specs.Steps.{takenOf, Takes};
+
+// Whether what the operand addresses is there, its register's word, its value.
+pub struct Taken {
+    pub present: bool,
+    pub word: u32,
+    pub value: u32,
+}
+
+fn look(o: Operand, regs: &[u32; 8], memory: &[u32]) -> Taken
+    ensures { λ r. ⌜ r ≡ takenOf o (now (regs .entry)) (now (memory .entry)) ⌝ }
+{
+    let word = register_word(o, regs);
+    if in_memory(o) {
+        let i = wide(word);
+        Taken {
+            present: i < memory.len(),
+            word,
+            value: load(memory, i),
+        }
+    } else {
+        Taken {
+            present: true,
+            word,
+            value: word,
+        }
+    }
+}
+
+// Steps an operand's register down and takes the operand. Where what it addresses is absent, the register is put back.
+pub fn take(o: Operand, regs: &mut [u32; 8], memory: &[u32]) -> Taken
+    ensures { λ r. ⌜ Takes o (now (regs .entry)) (now (memory .entry)) (now (regs .exit)) r ⌝ }
+{
+    let old = register_word(o, &*regs);
+    step_down(o, &mut *regs);
+    let t = look(o, &*regs, memory);
+    if t.present {
+        return t;
+    }
+    set_register(o, old, &mut *regs);
+    t
+}

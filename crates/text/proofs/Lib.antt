@@ -1,0 +1,2 @@
+pub mod Stores
+pub mod Figures

@@ -1,0 +1,54 @@
+// Digits of a number in a base of at most 16.
+ghost use mathlib.Core.Path.{_≡_};
+ghost use Prim.Native.Nat.{_+_, _^_, _≤_, _<_};
+ghost use lib.ListN.{set};
+ghost use lib.Seq.{sets};
+ghost use Rattle.text.specs.Text.{digit, digits, places};
+
+pub fn put_byte(out: &mut [u8], at: usize, byte: u8)
+    ensures { λ r. ⌜ now (out .exit) ≡ set (now (out .entry)) at byte ⌝ }
+{
+    if at < out.len() {
+        out[at] = byte;
+    }
+}
+
+fn digit_of(d: u64) -> u8
+    requires { ⌜ d < 16 ⌝ }
+    ensures { λ r. ⌜ r ≡ digit d ⌝ }
+{
+    if d < 10 {
+        0x30 + d as u8
+    } else {
+        0x37 + d as u8
+    }
+}
+
+// The last count digits of n, from the lowest up.
+pub fn put_digits(out: &mut [u8], at: usize, base: u64, count: usize, n: u64)
+    requires { ⌜ (0 < base) × (base ≤ 16) × (count ≤ 20) ⌝ }
+    ensures { λ r. ⌜ now (out .exit) ≡ sets (now (out .entry)) at (digits base count n) ⌝ }
+{
+    if at < out.len() {
+        let mut left = count;
+        let mut rest = n;
+        while 0 < left {
+            left -= 1;
+            put_byte(out, at + left, digit_of(rest % base));
+            rest /= base;
+        }
+    }
+}
+
+// How many decimal digits n has.
+pub fn count_places(n: u64) -> usize
+    ensures { λ r. ⌜ r ≡ places n n ⌝ }
+{
+    let mut count = 1;
+    let mut rest = n;
+    while 10 <= rest {
+        rest /= 10;
+        count += 1;
+    }
+    count
+}

@@ -1,0 +1,131 @@
+// The gate machine in C, written for speed: a local state and a switch on the row.
+#include "gate_unit.h"
+
+typedef struct {
+    uint32_t registers[8];
+    uint32_t flags; // C 8, V 4, N 2, Z 1: the order of the permit bits
+    uint32_t row, instruction, address, a, b, result, position;
+    bool begun;
+    uint32_t left;
+} State;
+
+// The row after each, where the instruction does not decide.
+static const uint8_t NEXT[12] = {1, 2, 3, 4, 5, 6, 7, 8, 10, 10, 11, 0};
+static const bool IS_ACCESS[12] = {0, 1, 0, 0, 1, 0, 1, 0, 0, 1, 0, 0};
+
+enum { DIRECT = 0, BEFORE = 2, AFTER = 3 };
+
+// Whether the access completes on this clock.
+INLINE bool access_completes(State *s, size_t words, const uint16_t *waits, size_t entries) {
+    if (s->address >= words) return false;
+    if (s->begun) {
+        s->begun = --s->left > 0;
+    } else if (s->position < entries) {
+        s->left = waits[s->position++];
+        s->begun = s->left > 0;
+    }
+    return !s->begun;
+}
+
+INLINE bool condition(uint32_t number, uint32_t flags) {
+    if (number >= 8) return true;
+    static const uint8_t shift[4] = {3, 2, 0, 1};
+    return (flags >> shift[number >> 1] & 1) == (number & 1);
+}
+
+// Rows 3 and 5: whether the operand is direct; its register's word in *word.
+INLINE bool take(State *s, uint32_t field, uint32_t *word) {
+    uint32_t number = field & 7, mode = field >> 3 & 3;
+    if (mode == BEFORE) s->registers[number]--;
+    *word = s->registers[number];
+    return mode == DIRECT;
+}
+
+// Row 7; returns the next row.
+INLINE uint32_t compute(State *s) {
+    uint32_t i = s->instruction, operation = i >> 16 & 15, permits = i >> 10 & 15;
+    bool carry = false, overflow = false, stored = true;
+    s->result = s->a;
+    if (i & 0x8000)
+        stored = condition(operation, s->flags);
+    else
+        s->result = gate_unit(operation, s->a, s->b, s->flags >> 3 & 1, &carry, &overflow);
+    uint32_t computed = carry << 3 | overflow << 2 | s->result >> 31 << 1 | (s->result == 0);
+    s->flags = (s->flags & ~permits) | (computed & permits);
+    return !stored ? 10 : (i >> 8 & 3) == DIRECT ? 8 : 9;
+}
+
+INLINE void step_up(State *s, uint32_t field) {
+    if ((field >> 3 & 3) == AFTER) s->registers[field & 7]++;
+}
+
+// One clock; whether an instruction finished.
+INLINE bool tick(State *s, uint32_t *memory, size_t words, const uint16_t *waits, size_t entries) {
+    uint32_t row = s->row, next = NEXT[row], i = s->instruction, word;
+    if (IS_ACCESS[row] && !access_completes(s, words, waits, entries)) return false;
+    switch (row) {
+    case 0: s->address = s->registers[0]; break;
+    case 1: s->instruction = memory[s->address]; break;
+    case 2: s->registers[0]++; break;
+    case 3:
+        if (take(s, i, &word)) {
+            s->a = word;
+            next = 5;
+        } else
+            s->address = word;
+        break;
+    case 4: s->a = memory[s->address]; break;
+    case 5:
+        if (take(s, i >> 5, &word)) {
+            s->b = word;
+            next = 7;
+        } else
+            s->address = word;
+        break;
+    case 6: s->b = memory[s->address]; break;
+    case 7: next = compute(s); break;
+    case 8: s->registers[i >> 5 & 7] = s->result; break;
+    case 9: memory[s->address] = s->result; break;
+    case 10: step_up(s, i); break;
+    default: step_up(s, i >> 5);
+    }
+    s->row = next;
+    return row == 11;
+}
+
+INLINE State state_of(const uint32_t *w) {
+    State s = {
+        .flags = w[8] << 3 | w[9] << 2 | w[10] << 1 | w[11],
+        .row = w[12],
+        .instruction = w[13],
+        .address = w[14],
+        .a = w[15],
+        .b = w[16],
+        .result = w[17],
+        .position = w[18],
+        .begun = w[19],
+        .left = w[20],
+    };
+    for (int i = 0; i < 8; i++) s.registers[i] = w[i];
+    return s;
+}
+
+INLINE void give(const State *s, uint32_t *w) {
+    for (int i = 0; i < 8; i++) w[i] = s->registers[i];
+    for (int i = 0; i < 4; i++) w[8 + i] = s->flags >> (3 - i) & 1;
+    const uint32_t rest[9] = {s->row, s->instruction, s->address, s->a,   s->b,
+                              s->result, s->position, s->begun,   s->left};
+    for (int i = 0; i < 9; i++) w[12 + i] = rest[i];
+}
+
+uint32_t baseline_gate_run(uint32_t *memory, size_t memory_words, const uint16_t *waits,
+                           size_t waits_entries, uint32_t *state, uint64_t clocks,
+                           uint64_t *result) {
+    State s = state_of(state);
+    uint64_t finished = 0;
+    for (uint64_t k = 0; k < clocks; k++)
+        finished += tick(&s, memory, memory_words, waits, waits_entries);
+    give(&s, state);
+    result[0] = finished;
+    return FINISHED;
+}

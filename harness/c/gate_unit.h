@@ -1,0 +1,10 @@
+// The arithmetic unit out of gates on single bits.
+#ifndef GATE_UNIT_H
+#define GATE_UNIT_H
+
+#include "baseline.h"
+
+uint32_t gate_unit(uint32_t operation, uint32_t a, uint32_t b, bool c, bool *carry,
+                   bool *overflow);
+
+#endif

@@ -1,0 +1,205 @@
+// The interpreter in C, written for speed: a run without waits or journal is
+// compiled without code for them. The registers stand apart from the rest of the
+// machine, as they are indexed and would keep all of it from the processor's
+// registers.
+#include "baseline.h"
+
+// A struct, so that the compiler sees an array where it indexes it.
+typedef struct {
+    uint32_t r[8];
+} Registers;
+
+typedef struct {
+    uint32_t carry, overflow, negative, zero;
+    uint32_t *memory;
+    size_t words;
+    const uint16_t *waits;
+    size_t entries, position;
+    uint32_t *journal; // null: no journal
+    size_t filled;     // places of the journal
+    uint64_t clocks;
+} Engine;
+
+enum { DIRECT = 0, BEFORE = 2, AFTER = 3 };
+
+// The wait of the next access.
+INLINE uint32_t next_wait(Engine *e) {
+    return e->position < e->entries ? e->waits[e->position++] : 0;
+}
+
+// Takes an operand; false if its word is missing.
+INLINE bool take(Engine *e, Registers *g, uint32_t mode, uint32_t number, uint32_t *value,
+                 uint32_t *address, uint64_t *clocks) {
+    if (mode == BEFORE) g->r[number]--;
+    *value = g->r[number];
+    if (mode == DIRECT) return true;
+    *address = *value;
+    if (*address >= e->words) return false;
+    *value = e->memory[*address];
+    *clocks += 1 + next_wait(e);
+    return true;
+}
+
+// A result with the carry and overflow that it would set.
+typedef struct {
+    uint32_t word, carry, overflow;
+} Result;
+
+INLINE Result sum(uint32_t x, uint32_t y, uint32_t carry) {
+    uint64_t wide = (uint64_t)x + y + carry;
+    uint32_t word = (uint32_t)wide;
+    return (Result){word, (uint32_t)(wide >> 32), ((x ^ word) & (y ^ word)) >> 31};
+}
+
+INLINE Result difference(uint32_t x, uint32_t y, uint32_t borrow) {
+    uint64_t wide = (uint64_t)x - y - borrow;
+    uint32_t word = (uint32_t)wide;
+    return (Result){word, (uint32_t)(wide >> 63), ((x ^ y) & (x ^ word)) >> 31};
+}
+
+// The arithmetic unit on whole words.
+INLINE Result word_unit(uint32_t operation, uint32_t a, uint32_t b, uint32_t carry) {
+    switch (operation) {
+    case 1: return (Result){a + 1, a == UINT32_MAX, a == INT32_MAX};
+    case 2: return sum(b, a, carry);
+    case 3: return sum(b, a, 0);
+    case 4: return (Result){-a, a != 0, a == 0x80000000u};
+    case 5: return (Result){a - 1, a == 0, a == 0x80000000u};
+    case 6: return difference(b, a, carry);
+    case 7: return difference(b, a, 0);
+    case 8: return (Result){a >> 1 | carry << 31, a & 1, 0};
+    case 9: return (Result){(uint32_t)((int32_t)a >> 1), a & 1, 0};
+    case 10: return (Result){a >> 1, a & 1, 0};
+    case 11: return (Result){a ^ b, 0, 0};
+    case 12: return (Result){a | b, 0, 0};
+    case 13: return (Result){a & b, 0, 0};
+    case 14: return (Result){~a, 0, 0};
+    default: return (Result){a, 0, 0};
+    }
+}
+
+INLINE bool condition(const Engine *e, uint32_t number) {
+    switch (number) {
+    case 0: return !e->carry;
+    case 1: return e->carry;
+    case 2: return !e->overflow;
+    case 3: return e->overflow;
+    case 4: return !e->zero;
+    case 5: return e->zero;
+    case 6: return !e->negative;
+    case 7: return e->negative;
+    default: return true;
+    }
+}
+
+// Sets the permitted flags; *stored says whether the result is stored.
+INLINE uint32_t compute(Engine *e, uint32_t word, uint32_t a, uint32_t b, bool *stored) {
+    uint32_t operation = word >> 16 & 15;
+    Result r = {a, 0, 0};
+    *stored = true;
+    if (word & 0x8000)
+        *stored = condition(e, operation);
+    else
+        r = word_unit(operation, a, b, e->carry);
+    if (word & 0x400) e->zero = r.word == 0;
+    if (word & 0x800) e->negative = r.word >> 31;
+    if (word & 0x1000) e->overflow = r.overflow;
+    if (word & 0x2000) e->carry = r.carry;
+    return r.word;
+}
+
+// Returns the wait.
+INLINE uint32_t store_word(Engine *e, uint32_t address, uint32_t former, uint32_t word) {
+    if (e->journal) {
+        e->journal[e->filled++] = address;
+        e->journal[e->filled++] = former;
+    }
+    e->memory[address] = word;
+    return next_wait(e);
+}
+
+// One instruction; false, with the registers as they were, if a word is missing.
+INLINE bool step(Engine *e, Registers *g) {
+    uint32_t a, b, ignored, address = 0;
+    if (g->r[0] >= e->words) return false;
+    uint32_t word = e->memory[g->r[0]++];
+    uint32_t ra = word & 7, ma = word >> 3 & 3, rb = word >> 5 & 7, mb = word >> 8 & 3;
+    uint64_t clocks = 8 + next_wait(e);
+    if (!take(e, g, ma, ra, &a, &ignored, &clocks)) {
+        if (ma == BEFORE) g->r[ra]++;
+        g->r[0]--;
+        return false;
+    }
+    if (!take(e, g, mb, rb, &b, &address, &clocks)) {
+        if (mb == BEFORE) g->r[rb]++;
+        if (ma == BEFORE) g->r[ra]++;
+        g->r[0]--;
+        return false;
+    }
+    bool stored;
+    uint32_t result = compute(e, word, a, b, &stored);
+    if (stored) {
+        clocks++;
+        if (mb)
+            clocks += store_word(e, address, b, result);
+        else
+            g->r[rb] = result;
+    }
+    if (ma == AFTER) g->r[ra]++;
+    if (mb == AFTER) g->r[rb]++;
+    e->clocks += clocks;
+    return true;
+}
+
+// Runs the machine; returns how many instructions ran.
+INLINE uint32_t go(Engine *e, Registers *g, const uint32_t *machine, uint32_t count) {
+    for (int i = 0; i < 8; i++) g->r[i] = machine[i];
+    e->carry = machine[8];
+    e->overflow = machine[9];
+    e->negative = machine[10];
+    e->zero = machine[11];
+    uint32_t ran = 0;
+    while (ran < count && step(e, g)) ran++;
+    return ran;
+}
+
+INLINE void give(const Engine *e, const Registers *g, uint32_t *machine) {
+    for (int i = 0; i < 8; i++) machine[i] = g->r[i];
+    machine[8] = e->carry;
+    machine[9] = e->overflow;
+    machine[10] = e->negative;
+    machine[11] = e->zero;
+}
+
+INLINE uint32_t plain_run(Engine e, uint32_t *machine, uint32_t count, uint64_t *result) {
+    Registers g;
+    uint32_t ran = go(&e, &g, machine, count);
+    give(&e, &g, machine);
+    result[0] = ran;
+    result[1] = e.clocks;
+    return ran == count ? FINISHED : STOPPED;
+}
+
+uint32_t baseline_run(uint32_t *memory, size_t memory_words, const uint16_t *waits,
+                      size_t waits_entries, uint32_t *machine, uint32_t count, uint64_t *result) {
+    Engine e = {.memory = memory, .words = memory_words};
+    if (waits_entries == 0) return plain_run(e, machine, count, result);
+    e.waits = waits;
+    e.entries = waits_entries;
+    return plain_run(e, machine, count, result);
+}
+
+uint32_t baseline_file_run(uint32_t *memory, size_t memory_words, uint32_t *journal,
+                           uint32_t *machine, uint32_t count, uint64_t *result) {
+    Engine e = {.memory = memory, .words = memory_words, .journal = journal};
+    Registers g;
+    uint32_t ran = go(&e, &g, machine, count);
+    result[0] = ran;
+    result[1] = e.filled / 2;
+    if (ran == count) {
+        give(&e, &g, machine);
+        return FINISHED;
+    }
+    for (size_t i = e.filled; i > 0; i -= 2) memory[journal[i - 2]] = journal[i - 1];
+    return STOPPED;
+}

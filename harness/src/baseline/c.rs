@@ -1,0 +1,140 @@
+//! The C baselines. They have the library's calls, so that the declarations are
+//! the same but for the names.
+
+mod raw {
+    extern "C" {
+        pub fn baseline_run(
+            memory: *mut u32,
+            memory_words: usize,
+            waits: *const u16,
+            waits_entries: usize,
+            machine: *mut u32,
+            count: u32,
+            result: *mut u64,
+        ) -> u32;
+        pub fn baseline_file_run(
+            memory: *mut u32,
+            memory_words: usize,
+            journal: *mut u32,
+            machine: *mut u32,
+            count: u32,
+            result: *mut u64,
+        ) -> u32;
+        pub fn baseline_gate_run(
+            memory: *mut u32,
+            memory_words: usize,
+            waits: *const u16,
+            waits_entries: usize,
+            state: *mut u32,
+            clocks: u64,
+            result: *mut u64,
+        ) -> u32;
+        pub fn baseline_image_read(
+            bytes: *const u8,
+            bytes_length: usize,
+            memory: *mut u32,
+            machine: *mut u32,
+            result: *mut u64,
+        ) -> u32;
+        pub fn baseline_image_write(
+            memory: *const u32,
+            memory_words: usize,
+            machine: *const u32,
+            out: *mut u8,
+            result: *mut u64,
+        ) -> u32;
+    }
+}
+
+// Safety of all calls: the slices are borrowed for the call, and the bench lends
+// what the baselines expect without checking it: a machine of 12 words or a
+// state of 21, enough result places, enough room for journal and output, and
+// good images only.
+
+pub fn run(
+    memory: &mut [u32],
+    waits: &[u16],
+    machine: &mut [u32],
+    count: u32,
+    result: &mut [u64],
+) -> u32 {
+    unsafe {
+        raw::baseline_run(
+            memory.as_mut_ptr(),
+            memory.len(),
+            waits.as_ptr(),
+            waits.len(),
+            machine.as_mut_ptr(),
+            count,
+            result.as_mut_ptr(),
+        )
+    }
+}
+
+pub fn file_run(
+    memory: &mut [u32],
+    journal: &mut [u32],
+    machine: &mut [u32],
+    count: u32,
+    result: &mut [u64],
+) -> u32 {
+    unsafe {
+        raw::baseline_file_run(
+            memory.as_mut_ptr(),
+            memory.len(),
+            journal.as_mut_ptr(),
+            machine.as_mut_ptr(),
+            count,
+            result.as_mut_ptr(),
+        )
+    }
+}
+
+pub fn gate_run(
+    memory: &mut [u32],
+    waits: &[u16],
+    state: &mut [u32],
+    clocks: u64,
+    result: &mut [u64],
+) -> u32 {
+    unsafe {
+        raw::baseline_gate_run(
+            memory.as_mut_ptr(),
+            memory.len(),
+            waits.as_ptr(),
+            waits.len(),
+            state.as_mut_ptr(),
+            clocks,
+            result.as_mut_ptr(),
+        )
+    }
+}
+
+pub fn image_read(
+    bytes: &[u8],
+    memory: &mut [u32],
+    machine: &mut [u32],
+    result: &mut [u64],
+) -> u32 {
+    unsafe {
+        raw::baseline_image_read(
+            bytes.as_ptr(),
+            bytes.len(),
+            memory.as_mut_ptr(),
+            machine.as_mut_ptr(),
+            result.as_mut_ptr(),
+        )
+    }
+}
+
+pub fn image_write(memory: &[u32], machine: &[u32], out: &mut [u8], result: &mut [u64]) -> u32 {
+    unsafe {
+        raw::baseline_image_write(
+            memory.as_ptr(),
+            memory.len(),
+            machine.as_ptr(),
+            out.as_mut_ptr(),
+            result.as_mut_ptr(),
+        )
+    }
+}

@@ -1,0 +1,191 @@
+//! The gate machine in Rust, written for speed: a lent state and a match on the row.
+
+use super::gate_unit::gate_unit;
+use super::operand::{Operand, DIRECT};
+use super::FINISHED;
+
+#[derive(Clone, Copy)]
+struct State {
+    registers: [u32; 8],
+    /// C 8, V 4, N 2, Z 1: the order of the permit bits.
+    flags: u32,
+    row: u32,
+    instruction: u32,
+    address: u32,
+    a: u32,
+    b: u32,
+    result: u32,
+    position: u32,
+    begun: bool,
+    left: u32,
+}
+
+/// The row after each, where the instruction does not decide.
+const NEXT: [u32; 12] = [1, 2, 3, 4, 5, 6, 7, 8, 10, 10, 11, 0];
+const IS_ACCESS: [bool; 12] = [
+    false, true, false, false, true, false, true, false, false, true, false, false,
+];
+
+#[inline(never)]
+pub fn gate_run(
+    memory: &mut [u32],
+    waits: &[u16],
+    words: &mut [u32],
+    clocks: u64,
+    result: &mut [u64],
+) -> u32 {
+    let mut state = State::of(words);
+    let mut finished = 0;
+    for _ in 0..clocks {
+        finished += u64::from(state.clock(memory, waits));
+    }
+    state.give(words);
+    result[0] = finished;
+    FINISHED
+}
+
+impl State {
+    fn of(words: &[u32]) -> State {
+        let mut registers = [0; 8];
+        registers.copy_from_slice(&words[..8]);
+        State {
+            registers,
+            flags: words[8..12].iter().fold(0, |flags, bit| 2 * flags + bit),
+            row: words[12],
+            instruction: words[13],
+            address: words[14],
+            a: words[15],
+            b: words[16],
+            result: words[17],
+            position: words[18],
+            begun: words[19] != 0,
+            left: words[20],
+        }
+    }
+
+    fn give(&self, words: &mut [u32]) {
+        words[..8].copy_from_slice(&self.registers);
+        for (i, word) in words[8..12].iter_mut().enumerate() {
+            *word = self.flags >> (3 - i) & 1;
+        }
+        words[12..].copy_from_slice(&[
+            self.row,
+            self.instruction,
+            self.address,
+            self.a,
+            self.b,
+            self.result,
+            self.position,
+            u32::from(self.begun),
+            self.left,
+        ]);
+    }
+
+    /// Returns whether an instruction finished.
+    #[inline(always)]
+    fn clock(&mut self, memory: &mut [u32], waits: &[u16]) -> bool {
+        let row = self.row as usize;
+        let mut next = NEXT[row];
+        if IS_ACCESS[row] && !self.access(memory.len(), waits) {
+            return false;
+        }
+        let a = Operand::of(self.instruction);
+        let b = Operand::of(self.instruction >> 5);
+        match row {
+            0 => self.address = self.registers[0],
+            1 => self.instruction = memory[self.address as usize],
+            2 => self.registers[0] = self.registers[0].wrapping_add(1),
+            3 => next = self.take_a(a),
+            4 => self.a = memory[self.address as usize],
+            5 => next = self.take_b(b),
+            6 => self.b = memory[self.address as usize],
+            7 => next = self.compute(b),
+            8 => self.registers[b.register] = self.result,
+            9 => memory[self.address as usize] = self.result,
+            10 => a.step_up(&mut self.registers),
+            _ => b.step_up(&mut self.registers),
+        }
+        self.row = next;
+        row == 11
+    }
+
+    /// Whether the access completes on this clock.
+    #[inline(always)]
+    fn access(&mut self, words: usize, waits: &[u16]) -> bool {
+        if self.address as usize >= words {
+            return false;
+        }
+        if self.begun {
+            self.left -= 1;
+            self.begun = self.left > 0;
+        } else if let Some(&wait) = waits.get(self.position as usize) {
+            self.position += 1;
+            self.left = u32::from(wait);
+            self.begun = wait > 0;
+        }
+        !self.begun
+    }
+
+    #[inline(always)]
+    fn take_a(&mut self, operand: Operand) -> u32 {
+        operand.step_down(&mut self.registers);
+        let word = self.registers[operand.register];
+        if operand.mode == DIRECT {
+            self.a = word;
+            return 5;
+        }
+        self.address = word;
+        4
+    }
+
+    #[inline(always)]
+    fn take_b(&mut self, operand: Operand) -> u32 {
+        operand.step_down(&mut self.registers);
+        let word = self.registers[operand.register];
+        if operand.mode == DIRECT {
+            self.b = word;
+            return 7;
+        }
+        self.address = word;
+        6
+    }
+
+    #[inline(always)]
+    fn compute(&mut self, operand: Operand) -> u32 {
+        let operation = self.instruction >> 16 & 15;
+        let is_move = self.instruction & 0x8000 != 0;
+        let stored = !is_move || condition(operation, self.flags);
+        let (result, carry, overflow) = if is_move {
+            (self.a, false, false)
+        } else {
+            gate_unit(operation, self.a, self.b, self.flags & 8 != 0)
+        };
+        let permits = self.instruction >> 10 & 15;
+        let computed = u32::from(carry) << 3
+            | u32::from(overflow) << 2
+            | result >> 31 << 1
+            | u32::from(result == 0);
+        self.flags = self.flags & !permits | computed & permits;
+        self.result = result;
+        match operand.mode {
+            _ if !stored => 10,
+            DIRECT => 8,
+            _ => 9,
+        }
+    }
+}
+
+#[inline(always)]
+fn condition(number: u32, flags: u32) -> bool {
+    match number {
+        0 => flags & 8 == 0,
+        1 => flags & 8 != 0,
+        2 => flags & 4 == 0,
+        3 => flags & 4 != 0,
+        4 => flags & 1 == 0,
+        5 => flags & 1 != 0,
+        6 => flags & 2 == 0,
+        7 => flags & 2 != 0,
+        _ => true,
+    }
+}

@@ -1,0 +1,80 @@
+//! Images in Rust, written for speed: whole fields at once.
+
+use super::FINISHED;
+
+const FIELD_WORDS: usize = 1_024;
+/// Where the registers, the flags, the word count and the first words stand.
+const REGISTERS: usize = 7;
+const FLAGS: usize = 42;
+const COUNT: usize = 49;
+const WORDS: usize = 53;
+
+pub fn image_write(memory: &[u32], machine: &[u32], out: &mut [u8], result: &mut [u64]) -> u32 {
+    out[..REGISTERS].copy_from_slice(&[1, 1, 0, 1, 2, 32, 0]);
+    put_words(&machine[..8], &mut out[REGISTERS..]);
+    out[REGISTERS + 32..FLAGS].copy_from_slice(&[3, 4, 0]);
+    for (byte, &flag) in out[FLAGS..].iter_mut().zip(&machine[8..]) {
+        *byte = flag as u8;
+    }
+    out[FLAGS + 4..COUNT].copy_from_slice(&[4, 4, 0]);
+    put_words(&[memory.len() as u32], &mut out[COUNT..]);
+    let mut at = WORDS;
+    for words in memory.chunks(FIELD_WORDS) {
+        let [low, high] = (4 * words.len() as u16).to_le_bytes();
+        out[at..at + 3].copy_from_slice(&[5, low, high]);
+        put_words(words, &mut out[at + 3..]);
+        at += 3 + 4 * words.len();
+    }
+    out[at..at + 3].copy_from_slice(&[0xFF, 0, 0]);
+    result[0] = at as u64 + 3;
+    FINISHED
+}
+
+fn put_words(words: &[u32], out: &mut [u8]) {
+    for (bytes, word) in out.chunks_exact_mut(4).zip(words) {
+        bytes.copy_from_slice(&word.to_le_bytes());
+    }
+}
+
+/// Checks the fields' headers before it loads; the bench lends good images only.
+pub fn image_read(
+    bytes: &[u8],
+    memory: &mut [u32],
+    machine: &mut [u32],
+    result: &mut [u64],
+) -> u32 {
+    let mut count = [0];
+    get_words(&bytes[COUNT..], &mut count);
+    let words = count[0] as usize;
+    check_headers(bytes, words);
+    get_words(&bytes[REGISTERS..], &mut machine[..8]);
+    for (flag, &byte) in machine[8..].iter_mut().zip(&bytes[FLAGS..]) {
+        *flag = u32::from(byte);
+    }
+    let fields = bytes[WORDS..].chunks(3 + 4 * FIELD_WORDS);
+    for (field, cells) in fields.zip(memory[..words].chunks_mut(FIELD_WORDS)) {
+        get_words(&field[3..], cells);
+    }
+    result[0] = words as u64;
+    FINISHED
+}
+
+fn check_headers(bytes: &[u8], words: usize) {
+    assert_eq!(bytes[..REGISTERS], [1, 1, 0, 1, 2, 32, 0]);
+    let mut at = WORDS;
+    let mut due = words;
+    while due > 0 {
+        let here = due.min(FIELD_WORDS);
+        let [low, high] = (4 * here as u16).to_le_bytes();
+        assert_eq!(bytes[at..at + 3], [5, low, high]);
+        at += 3 + 4 * here;
+        due -= here;
+    }
+    assert_eq!(bytes[at..], [0xFF, 0, 0]);
+}
+
+fn get_words(bytes: &[u8], words: &mut [u32]) {
+    for (word, bytes) in words.iter_mut().zip(bytes.chunks_exact(4)) {
+        *word = u32::from_le_bytes([bytes[0], bytes[1], bytes[2], bytes[3]]);
+    }
+}

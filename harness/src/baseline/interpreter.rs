@@ -1,0 +1,251 @@
+//! The interpreter in Rust, written for speed: a run without waits or journal has
+//! no code for them. The registers stand apart from the rest of the machine, as
+//! they are indexed and would keep all of it from the processor's registers.
+
+use super::code;
+use super::operand::{Operand, DIRECT};
+use super::word_unit::word_unit;
+
+struct Engine<'a, const WAITS: bool, const JOURNAL: bool> {
+    carry: bool,
+    overflow: bool,
+    negative: bool,
+    zero: bool,
+    memory: &'a mut [u32],
+    waits: &'a [u16],
+    position: usize,
+    journal: &'a mut [u32],
+    /// Places of the journal that are filled.
+    filled: usize,
+}
+
+/// Instructions that ran, their clocks, and whether all of them ran.
+struct Ran {
+    count: u32,
+    clocks: u64,
+    finished: bool,
+}
+
+pub fn run(
+    memory: &mut [u32],
+    waits: &[u16],
+    machine: &mut [u32],
+    count: u32,
+    result: &mut [u64],
+) -> u32 {
+    let ran = if waits.is_empty() {
+        plain_run::<false>(memory, waits, machine, count)
+    } else {
+        plain_run::<true>(memory, waits, machine, count)
+    };
+    result.copy_from_slice(&[u64::from(ran.count), ran.clocks]);
+    code(ran.finished)
+}
+
+#[inline(never)]
+fn plain_run<const WAITS: bool>(
+    memory: &mut [u32],
+    waits: &[u16],
+    machine: &mut [u32],
+    count: u32,
+) -> Ran {
+    let mut registers = registers_of(machine);
+    let mut engine = Engine::<WAITS, false>::new(machine, memory, waits, &mut []);
+    let ran = engine.run(&mut registers, count);
+    engine.give(&registers, machine);
+    ran
+}
+
+#[inline(never)]
+pub fn file_run(
+    memory: &mut [u32],
+    journal: &mut [u32],
+    machine: &mut [u32],
+    count: u32,
+    result: &mut [u64],
+) -> u32 {
+    let mut registers = registers_of(machine);
+    let mut engine = Engine::<false, true>::new(machine, memory, &[], journal);
+    let ran = engine.run(&mut registers, count);
+    let filled = engine.filled;
+    if ran.finished {
+        engine.give(&registers, machine);
+    } else {
+        for pair in engine.journal[..filled].rchunks_exact(2) {
+            engine.memory[pair[0] as usize] = pair[1];
+        }
+    }
+    result.copy_from_slice(&[u64::from(ran.count), filled as u64 / 2]);
+    code(ran.finished)
+}
+
+fn registers_of(machine: &[u32]) -> [u32; 8] {
+    let mut registers = [0; 8];
+    registers.copy_from_slice(&machine[..8]);
+    registers
+}
+
+impl<'a, const WAITS: bool, const JOURNAL: bool> Engine<'a, WAITS, JOURNAL> {
+    #[inline(always)]
+    fn new(
+        machine: &[u32],
+        memory: &'a mut [u32],
+        waits: &'a [u16],
+        journal: &'a mut [u32],
+    ) -> Self {
+        Engine {
+            carry: machine[8] != 0,
+            overflow: machine[9] != 0,
+            negative: machine[10] != 0,
+            zero: machine[11] != 0,
+            memory,
+            waits,
+            position: 0,
+            journal,
+            filled: 0,
+        }
+    }
+
+    #[inline(always)]
+    fn give(&self, registers: &[u32; 8], machine: &mut [u32]) {
+        let flags = [self.carry, self.overflow, self.negative, self.zero];
+        machine[..8].copy_from_slice(registers);
+        machine[8..].copy_from_slice(&flags.map(u32::from));
+    }
+
+    #[inline(always)]
+    fn run(&mut self, registers: &mut [u32; 8], count: u32) -> Ran {
+        let mut ran = Ran {
+            count: 0,
+            clocks: 0,
+            finished: true,
+        };
+        while ran.count < count {
+            let Some(clocks) = self.step(registers) else {
+                ran.finished = false;
+                break;
+            };
+            ran.clocks += clocks;
+            ran.count += 1;
+        }
+        ran
+    }
+
+    /// One instruction; returns its clocks, or nothing if a word is missing.
+    #[inline(always)]
+    fn step(&mut self, registers: &mut [u32; 8]) -> Option<u64> {
+        let pc = registers[0];
+        let word = *self.memory.get(pc as usize)?;
+        let operand_a = Operand::of(word);
+        let operand_b = Operand::of(word >> 5);
+        registers[0] = pc.wrapping_add(1);
+        let mut clocks = 8 + self.wait();
+        let mut address = 0;
+        let Some(a) = self.take(operand_a, registers, &mut address, &mut clocks) else {
+            operand_a.take_back(registers);
+            registers[0] = registers[0].wrapping_sub(1);
+            return None;
+        };
+        let Some(b) = self.take(operand_b, registers, &mut address, &mut clocks) else {
+            operand_b.take_back(registers);
+            operand_a.take_back(registers);
+            registers[0] = registers[0].wrapping_sub(1);
+            return None;
+        };
+        let (result, stored) = self.compute(word, a, b);
+        if stored {
+            clocks += 1;
+            if operand_b.mode == DIRECT {
+                registers[operand_b.register] = result;
+            } else {
+                clocks += self.store(address, b, result);
+            }
+        }
+        operand_a.step_up(registers);
+        operand_b.step_up(registers);
+        Some(clocks)
+    }
+
+    /// The wait of the next access.
+    #[inline(always)]
+    fn wait(&mut self) -> u64 {
+        if WAITS {
+            if let Some(&wait) = self.waits.get(self.position) {
+                self.position += 1;
+                return u64::from(wait);
+            }
+        }
+        0
+    }
+
+    /// An operand's value; `address` is set if it is in memory.
+    #[inline(always)]
+    fn take(
+        &mut self,
+        operand: Operand,
+        registers: &mut [u32; 8],
+        address: &mut usize,
+        clocks: &mut u64,
+    ) -> Option<u32> {
+        operand.step_down(registers);
+        let content = registers[operand.register];
+        if operand.mode == DIRECT {
+            return Some(content);
+        }
+        *address = content as usize;
+        let value = *self.memory.get(*address)?;
+        *clocks += 1 + self.wait();
+        Some(value)
+    }
+
+    /// Sets the permitted flags; returns the result and whether it is stored.
+    #[inline(always)]
+    fn compute(&mut self, word: u32, a: u32, b: u32) -> (u32, bool) {
+        let operation = word >> 16 & 15;
+        let (stored, (result, carry, overflow)) = if word & 0x8000 != 0 {
+            (self.condition(operation), (a, false, false))
+        } else {
+            (true, word_unit(operation, a, b, self.carry))
+        };
+        if word & 0x400 != 0 {
+            self.zero = result == 0;
+        }
+        if word & 0x800 != 0 {
+            self.negative = result >> 31 != 0;
+        }
+        if word & 0x1000 != 0 {
+            self.overflow = overflow;
+        }
+        if word & 0x2000 != 0 {
+            self.carry = carry;
+        }
+        (result, stored)
+    }
+
+    #[inline(always)]
+    fn condition(&self, number: u32) -> bool {
+        match number {
+            0 => !self.carry,
+            1 => self.carry,
+            2 => !self.overflow,
+            3 => self.overflow,
+            4 => !self.zero,
+            5 => self.zero,
+            6 => !self.negative,
+            7 => self.negative,
+            _ => true,
+        }
+    }
+
+    /// Returns the wait.
+    #[inline(always)]
+    fn store(&mut self, address: usize, former: u32, word: u32) -> u64 {
+        if JOURNAL {
+            self.journal[self.filled] = address as u32;
+            self.journal[self.filled + 1] = former;
+            self.filled += 2;
+        }
+        self.memory[address] = word;
+        self.wait()
+    }
+}

@@ -1,0 +1,101 @@
+//! Whether all contenders do the same, before anything is measured.
+
+use super::workload::{
+    generated, moves_loop, register_loop, stacking_loop, stacking_outside, Workload,
+};
+use crate::baseline::{Contender, CONTENDERS};
+use crate::words::{machine_words, state_words};
+use reference::generate::program::{any_program, Program};
+use reference::generate::state::gate_state;
+use reference::image::image_size;
+use reference::rng::Rng;
+
+/// Ends the program with the case where two contenders differ.
+pub fn check(starts: u64) {
+    for seed in 0..starts {
+        let mut rng = Rng::new(seed);
+        let program = any_program(&mut rng);
+        let workload = Workload {
+            name: format!("start {seed}"),
+            machine: machine_words(&program.start),
+            memory: program.memory.clone(),
+            waits: program.waits.clone(),
+        };
+        check_runs(&workload, program.count);
+        check_gates(&workload, workload.state(), rng.below(400) as u64);
+        check_gates(&workload, any_state(&mut rng, &program), 60);
+    }
+    for workload in [
+        register_loop(),
+        stacking_loop(),
+        stacking_outside(),
+        generated(),
+        moves_loop(),
+    ] {
+        for workload in [workload.with_waits(), workload] {
+            check_runs(&workload, 65_536);
+            check_gates(&workload, workload.state(), 50_000);
+        }
+    }
+    for words in [1, 2, 1_023, 1_024, 1_025, 2_048, 5_000] {
+        check_images(words);
+    }
+}
+
+fn any_state(rng: &mut Rng, program: &Program) -> [u32; 21] {
+    let state = gate_state(rng, program.memory.len(), program.waits.len());
+    state_words(&state)
+}
+
+/// All contenders' outcomes must be the first one's.
+fn all_same<T: PartialEq>(case: &str, outcome: impl Fn(&Contender) -> T) {
+    let first = outcome(&CONTENDERS[0]);
+    for contender in &CONTENDERS[1..] {
+        let name = contender.name;
+        assert!(outcome(contender) == first, "{name} differs: {case}");
+    }
+}
+
+fn check_runs(start: &Workload, count: u32) {
+    all_same(&format!("run, {}", start.name), |contender| {
+        let (mut memory, mut machine) = (start.memory.clone(), start.machine);
+        let mut result = [0; 2];
+        let waits = &start.waits;
+        let code = (contender.run)(&mut memory, waits, &mut machine, count, &mut result);
+        (code, memory, machine, result)
+    });
+    all_same(&format!("file run, {}", start.name), |contender| {
+        let (mut memory, mut machine) = (start.memory.clone(), start.machine);
+        let mut journal = vec![7; 2 * count as usize];
+        let mut result = [0; 2];
+        let lent = (&mut memory, &mut journal, &mut machine);
+        let code = (contender.file_run)(lent.0, lent.1, lent.2, count, &mut result);
+        (code, memory, journal, machine, result)
+    });
+}
+
+fn check_gates(start: &Workload, state: [u32; 21], clocks: u64) {
+    all_same(&format!("gate run, {}", start.name), |contender| {
+        let (mut memory, mut state) = (start.memory.clone(), state);
+        let mut result = [0; 1];
+        let waits = &start.waits;
+        let code = (contender.gate_run)(&mut memory, waits, &mut state, clocks, &mut result);
+        (code, memory, state, result)
+    });
+}
+
+fn check_images(words: usize) {
+    let mut rng = Rng::new(words as u64);
+    let memory: Vec<u32> = (0..words).map(|_| rng.word()).collect();
+    let mut machine = [0; 12];
+    machine[..8].fill_with(|| rng.word());
+    machine[8..].fill_with(|| u32::from(rng.flag()));
+    all_same(&format!("image of {words} words"), |contender| {
+        let mut image = vec![7; image_size(words)];
+        let mut size = [0];
+        (contender.image_write)(&memory, &machine, &mut image, &mut size);
+        let mut loaded = (vec![7; words], [7; 12], [0]);
+        (contender.image_read)(&image, &mut loaded.0, &mut loaded.1, &mut loaded.2);
+        (image, size, loaded)
+    });
+}

@@ -1,0 +1,71 @@
+//! Interpreter and gate machine on programs that run on.
+
+use super::measure::{best, time, Task};
+use super::table::Table;
+use super::workload::{generated, moves_loop, register_loop, stacking_loop, Workload};
+use super::Sizes;
+use crate::baseline::{Contender, CONTENDERS};
+
+pub fn interpreter(sizes: Sizes) -> Table {
+    let mut rows = Vec::new();
+    for workload in [register_loop(), stacking_loop(), generated()] {
+        for workload in [workload.with_waits(), workload].into_iter().rev() {
+            let mut tasks = CONTENDERS.each_ref().map(|contender| -> Task {
+                let workload = workload.clone();
+                Box::new(move || run(contender, &workload, sizes.instructions))
+            });
+            rows.push((workload.name.clone(), best(sizes.rounds, &mut tasks)));
+        }
+    }
+    Table {
+        title: "Interpreter".into(),
+        unit: "instruction",
+        rows,
+    }
+}
+
+fn run(contender: &Contender, workload: &Workload, count: u32) -> f64 {
+    let (mut memory, mut machine) = (workload.memory.clone(), workload.machine);
+    let mut result = [0; 2];
+    time(u64::from(count), || {
+        (contender.run)(
+            &mut memory,
+            &workload.waits,
+            &mut machine,
+            count,
+            &mut result,
+        )
+    })
+}
+
+pub fn gate_machine(sizes: Sizes) -> Table {
+    let mut rows = Vec::new();
+    let stacking = stacking_loop();
+    let waiting = stacking.with_waits();
+    for workload in [register_loop(), stacking, moves_loop(), waiting] {
+        let mut tasks = CONTENDERS.each_ref().map(|contender| -> Task {
+            let workload = workload.clone();
+            Box::new(move || gate_run(contender, &workload, sizes.clocks))
+        });
+        rows.push((workload.name.clone(), best(sizes.rounds, &mut tasks)));
+    }
+    Table {
+        title: "Gate machine".into(),
+        unit: "clock",
+        rows,
+    }
+}
+
+fn gate_run(contender: &Contender, workload: &Workload, clocks: u64) -> f64 {
+    let (mut memory, mut state) = (workload.memory.clone(), workload.state());
+    let mut result = [0; 1];
+    time(clocks, || {
+        (contender.gate_run)(
+            &mut memory,
+            &workload.waits,
+            &mut state,
+            clocks,
+            &mut result,
+        )
+    })
+}

@@ -1,0 +1,174 @@
+//! The programs that are measured.
+
+use reference::rng::Rng;
+use reference::{Flags, Instruction, Operand};
+use Operand::{After, Direct, Indirect};
+
+/// A start from which a program runs on for ever.
+#[derive(Clone)]
+pub struct Workload {
+    pub name: String,
+    pub machine: [u32; 12],
+    pub memory: Vec<u32>,
+    pub waits: Vec<u16>,
+}
+
+impl Workload {
+    fn new(name: &str, registers: [u32; 8], memory: Vec<u32>) -> Workload {
+        let mut machine = [0; 12];
+        machine[..8].copy_from_slice(&registers);
+        Workload {
+            name: name.into(),
+            machine,
+            memory,
+            waits: Vec::new(),
+        }
+    }
+
+    /// The same with the longest wait list, entries 0 to 4.
+    pub fn with_waits(&self) -> Workload {
+        Workload {
+            name: format!("{}, waits", self.name),
+            waits: (0..65_536u32).map(|i| (i % 5) as u16).collect(),
+            ..self.clone()
+        }
+    }
+
+    /// The gate state between instructions, latches 0.
+    pub fn state(&self) -> [u32; 21] {
+        let mut state = [0; 21];
+        state[..12].copy_from_slice(&self.machine);
+        state
+    }
+}
+
+const NONE: [bool; 4] = [false; 4];
+const ALL: [bool; 4] = [true; 4];
+const CARRY: [bool; 4] = [true, false, false, false];
+const ZERO: [bool; 4] = [false, false, false, true];
+const NEGATIVE_ZERO: [bool; 4] = [false, false, true, true];
+
+/// Operation `operation` on the operands, with permits for C, V, N, Z.
+fn compute(operation: u8, permit: [bool; 4], a: Operand, b: Operand) -> u32 {
+    let instruction = Instruction {
+        a,
+        b,
+        permit: Flags::from_array(permit),
+        is_move: false,
+        operation,
+    };
+    instruction.encode()
+}
+
+/// A move under a condition.
+fn move_if(condition: u8, permit: [bool; 4], a: Operand, b: Operand) -> u32 {
+    compute(condition, permit, a, b) | 0x8000
+}
+
+const MOVE: u8 = 0;
+const ADD: u8 = 3;
+const ADD_CARRY: u8 = 2;
+const DECREMENT: u8 = 5;
+const SUBTRACT: u8 = 7;
+const HALVE: u8 = 10;
+const XOR: u8 = 11;
+const NOT_ZERO: u8 = 4;
+const ALWAYS: u8 = 8;
+
+/// Six instructions on registers only.
+pub fn register_loop() -> Workload {
+    let mut memory = vec![0; 64];
+    memory[..6].copy_from_slice(&[
+        compute(ADD, ALL, Direct(3), Direct(2)),
+        compute(XOR, NEGATIVE_ZERO, Direct(2), Direct(4)),
+        compute(HALVE, CARRY, Direct(4), Direct(5)),
+        compute(ADD_CARRY, ALL, Direct(5), Direct(3)),
+        compute(DECREMENT, ZERO, Direct(1), Direct(1)),
+        move_if(NOT_ZERO, NONE, Direct(7), Direct(0)),
+    ]);
+    let registers = [0, u32::MAX, 2, 0x1234_5677, 5, 9, 0, 0];
+    Workload::new("register loop", registers, memory)
+}
+
+/// Adds 4,096 samples at r1 to the accumulators at r2, and then begins again.
+pub fn stacking_loop() -> Workload {
+    const SAMPLES: u32 = 4_096;
+    const FIRST: u32 = 1_024;
+    let mut rng = Rng::new(77);
+    let mut memory = vec![0; 16_384];
+    for word in &mut memory[FIRST as usize..][..2 * SAMPLES as usize] {
+        *word = rng.word() >> 8;
+    }
+    memory[..8].copy_from_slice(&[
+        compute(ADD, NONE, After(1), After(2)),
+        compute(DECREMENT, ZERO, Direct(3), Direct(3)),
+        move_if(NOT_ZERO, NONE, Direct(4), Direct(0)),
+        compute(MOVE, NONE, After(0), Direct(3)),
+        SAMPLES,
+        compute(SUBTRACT, NONE, Direct(3), Direct(2)),
+        compute(SUBTRACT, NONE, Direct(3), Direct(1)),
+        move_if(ALWAYS, NONE, Direct(4), Direct(0)),
+    ]);
+    let registers = [0, FIRST, FIRST + SAMPLES, SAMPLES, 0, 0, 0, 0];
+    Workload::new("stacking loop", registers, memory)
+}
+
+/// The stacking loop without an end: it comes outside after 50,988 instructions.
+pub fn stacking_outside() -> Workload {
+    let endless = stacking_loop();
+    let mut memory = vec![0; 21_096];
+    memory[..3].copy_from_slice(&endless.memory[..3]);
+    let registers = [0, 100, 4_100, 60_000, 0, 0, 0, 0];
+    Workload::new("stacking loop", registers, memory)
+}
+
+/// A generated body of 1,000 instructions in a loop: r1 to r3 hold data, r4 to
+/// r7 are pointers that are set again after the body.
+pub fn generated() -> Workload {
+    const BODY: usize = 1_000;
+    let base = |pointer: u8| 16_384 + 8_192 * u32::from(pointer - 4);
+    let mut rng = Rng::new(99);
+    let mut memory: Vec<u32> = (0..BODY).map(|_| generated_word(&mut rng)).collect();
+    for pointer in 4..8 {
+        memory.extend([
+            compute(MOVE, NONE, After(0), Direct(pointer)),
+            base(pointer),
+        ]);
+    }
+    // The constant goes to r0, whose step up then makes it 0.
+    memory.extend([compute(MOVE, NONE, After(0), Direct(0)), u32::MAX]);
+    memory.resize(8_192, 0);
+    memory.extend((8_192..65_536).map(|_| rng.word()));
+    let registers = [0, 0, 0, 0, base(4), base(5), base(6), base(7)];
+    Workload::new("generated program", registers, memory)
+}
+
+fn generated_word(rng: &mut Rng) -> u32 {
+    let a = generated_operand(rng, 7);
+    let b = generated_operand(rng, 3);
+    let is_move = rng.one_in(4);
+    let permit = [(); 4].map(|()| rng.flag());
+    let word = compute(rng.below(16) as u8, permit, a, b);
+    word | u32::from(is_move) << 15
+}
+
+/// A register from r1 to the highest, or a pointer in any mode.
+fn generated_operand(rng: &mut Rng, highest: usize) -> Operand {
+    if rng.flag() {
+        return Direct(rng.between(1, highest) as u8);
+    }
+    let mode = rng.between(1, 3);
+    Operand::decode((mode << 3 | rng.between(4, 7)) as u32)
+}
+
+/// Moves only: the arithmetic unit is not used, so that the clocks alone count.
+pub fn moves_loop() -> Workload {
+    let mut memory = vec![0; 64];
+    memory[..4].copy_from_slice(&[
+        move_if(ALWAYS, ALL, Direct(3), Direct(2)),
+        move_if(ALWAYS, ALL, Indirect(5), Direct(4)),
+        move_if(ALWAYS, NONE, Direct(2), Indirect(5)),
+        move_if(ALWAYS, NONE, Direct(7), Direct(0)),
+    ]);
+    Workload::new("moves only", [0, 1, 2, 3, 0, 32, 0, 0], memory)
+}

@@ -1,0 +1,81 @@
+//! Compares the proved calls with the reference emulator on generated cases.
+
+use harness::arguments::{numbers, value};
+use harness::differential::{gates, images, limits, misfits, programs, refusals, Check};
+use reference::rng::Rng;
+use std::process::exit;
+
+const HELP: &str = "\
+Usage: differential [--programs N] [--seed S] [--images N] [--states N]
+
+Runs generated cases through the proved calls and through the reference
+emulator, and compares what they return and leave. Case i has seed S + i.
+Without numbers: 10000 programs, seed 1, and a tenth as many images and states
+as programs.
+";
+
+fn main() {
+    let given = numbers(&["--programs", "--seed", "--images", "--states"], HELP);
+    let programs = value(&given, "--programs", 10_000);
+    let seed = value(&given, "--seed", 1);
+    let images = value(&given, "--images", programs / 10);
+    let states = value(&given, "--states", programs / 10);
+
+    check_programs(seed, programs);
+    each(seed, states, "--states", gates::check_state);
+    println!("{states} gate states agree, seed {seed}");
+    check_images(seed, images);
+    check_refusals(seed);
+    println!("differential: all agree");
+}
+
+/// One check for each seed; ends the program at the first that fails.
+fn each(seed: u64, cases: u64, kind: &str, mut check: impl FnMut(&mut Rng) -> Check) {
+    for number in 0..cases {
+        let seed = seed.wrapping_add(number);
+        let outcome = check(&mut Rng::new(seed));
+        settle(outcome, &format!("{kind} 1 --seed {seed}"));
+    }
+}
+
+/// Prints the case with the options that make it again.
+fn settle<T>(outcome: Result<T, String>, options: &str) -> T {
+    outcome.unwrap_or_else(|text| {
+        println!("MISMATCH ({options}): {text}");
+        exit(1)
+    })
+}
+
+fn check_programs(seed: u64, cases: u64) {
+    let mut tally = programs::Tally::default();
+    each(seed, cases, "--programs", |rng| {
+        programs::check(rng, &mut tally)
+    });
+    println!(
+        "{cases} programs agree, seed {seed}: {} instructions, {} clocks, {} outside, {} journal pairs",
+        tally.instructions, tally.clocks, tally.outside, tally.journal_pairs
+    );
+}
+
+fn check_images(seed: u64, cases: u64) {
+    let mut tally = images::Tally::default();
+    each(seed, cases, "--images", |rng| {
+        images::check(rng, &mut tally)
+    });
+    println!(
+        "{} images agree, seed {seed}: {} refused",
+        tally.read, tally.refused
+    );
+}
+
+fn check_refusals(seed: u64) {
+    let refused = settle(
+        refusals::check(&mut Rng::new(seed)),
+        &format!("refusals, --seed {seed}"),
+    );
+    let misfits = settle(misfits::check(), "forms");
+    settle(limits::check(), "limits");
+    println!(
+        "{refused} calls with reasons to refuse, {misfits} of a bad form and the limits agree"
+    );
+}

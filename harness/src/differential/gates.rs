@@ -1,0 +1,96 @@
+//! Gate runs of generated programs and from generated states.
+
+use super::outcome::Outcome;
+use super::{expected, proved, run_case, same, Check};
+use crate::text::hex_words;
+use crate::words::state_words;
+use reference::generate::program::{any_program, Program};
+use reference::generate::state::{gate_state, refused_gate_state};
+use reference::rng::Rng;
+use reference::GateState;
+
+/// A start between instructions: any latches, at the head of the wait list.
+fn start(rng: &mut Rng, program: &Program) -> GateState {
+    let latches = gate_state(rng, program.memory.len(), 0);
+    GateState {
+        registers: program.start.registers,
+        flags: program.start.flags,
+        row: 0,
+        position: 0,
+        begun: false,
+        left: 0,
+        ..latches
+    }
+}
+
+/// Gate runs that end just before, at and just after the clock total, one that
+/// goes on for some clocks, and the same one in parts.
+pub fn check_around(rng: &mut Rng, program: &Program, total: u64) -> Check {
+    let state = start(rng, program);
+    let longest = total + rng.between(2, 60) as u64;
+    for clocks in [total.saturating_sub(1), total, total + 1, longest] {
+        check_gate_run(program, &state, clocks)?;
+    }
+    let first = rng.between(0, longest as usize) as u64;
+    let second = rng.between(0, (longest - first) as usize) as u64;
+    check_parts(program, &state, [first, second, longest - first - second])
+}
+
+fn check_gate_run(program: &Program, state: &GateState, clocks: u64) -> Check {
+    let Program { memory, waits, .. } = program;
+    let proved = proved::gate_run(memory, waits, state, clocks);
+    let expected = expected::gate_run(memory, waits, state, clocks);
+    same("gate run", &proved, &expected, || {
+        gate_case(program, state, clocks)
+    })
+}
+
+/// Runs that follow on, against one run of all their clocks.
+fn check_parts(program: &Program, state: &GateState, parts: [u64; 3]) -> Check {
+    let clocks = parts.iter().sum();
+    let expected = expected::gate_run(&program.memory, &program.waits, state, clocks);
+    let mut proved = Outcome::as_lent(&program.memory, &state_words(state), 1);
+    let mut finished = 0;
+    for part in parts {
+        proved = proved::gate_run_on(&proved.memory, &program.waits, &proved.words, part);
+        finished += proved.result[0];
+    }
+    proved.result = vec![finished];
+    same("gate run in parts", &proved, &expected, || {
+        format!("{}parts {parts:?}\n", gate_case(program, state, clocks))
+    })
+}
+
+/// A state in any row, some of them refused: clock by clock, then as one run.
+pub fn check_state(rng: &mut Rng) -> Check {
+    let program = any_program(rng);
+    let (words, entries) = (program.memory.len(), program.waits.len());
+    let state = if rng.one_in(5) {
+        refused_gate_state(rng, words, entries)
+    } else {
+        gate_state(rng, words, entries)
+    };
+    check_clocks(&program, state, rng.between(1, 40))?;
+    check_gate_run(&program, &state, rng.between(0, 200) as u64)
+}
+
+/// Each clock advances the state and the memory that the clock before it left.
+fn check_clocks(program: &Program, start: GateState, clocks: usize) -> Check {
+    let mut state = start;
+    let mut proved = Outcome::as_lent(&program.memory, &state_words(&start), 1);
+    for number in 1..=clocks {
+        let expected = expected::clock(&proved.memory, &program.waits, &mut state);
+        proved = proved::clock(&proved.memory, &program.waits, &proved.words);
+        same("clock", &proved, &expected, || {
+            let case = gate_case(program, &start, number as u64);
+            format!("{case}at the last of these clocks, each a call\n")
+        })?;
+    }
+    Ok(())
+}
+
+fn gate_case(program: &Program, state: &GateState, clocks: u64) -> String {
+    let words = hex_words(&state_words(state));
+    let far = format!("state{words}\nclocks {clocks}");
+    run_case(&program.memory, &state.machine(), &program.waits, far)
+}

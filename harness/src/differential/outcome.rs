@@ -1,0 +1,62 @@
+//! What a call returned and left in everything it was lent.
+
+use super::lent::guard;
+use crate::text::{hex_bytes, hex_words};
+use std::fmt;
+
+/// Codes of calls that were carried out.
+pub const FINISHED: u32 = 0;
+pub const STOPPED: u32 = 100;
+/// A machine, state or result of the wrong form.
+pub const MISFIT: u32 = 200;
+
+#[derive(Clone, Debug, PartialEq, Eq)]
+pub struct Outcome {
+    pub code: u32,
+    /// The machine's 12 words or the state's 21.
+    pub words: Vec<u32>,
+    pub result: Vec<u64>,
+    pub memory: Vec<u32>,
+    pub journal: Vec<u32>,
+    /// The output of the image writer.
+    pub output: Vec<u8>,
+    /// Whether a place next to a lent slice was written.
+    pub strayed: bool,
+}
+
+impl Outcome {
+    /// A call that is to fill `places` of a result, before it is made.
+    pub fn as_lent(memory: &[u32], words: &[u32], places: usize) -> Outcome {
+        Outcome {
+            code: FINISHED,
+            words: words.to_vec(),
+            result: vec![guard(); places],
+            memory: memory.to_vec(),
+            journal: Vec::new(),
+            output: Vec::new(),
+            strayed: false,
+        }
+    }
+
+    pub fn carried_out(&self) -> bool {
+        matches!(self.code, FINISHED | STOPPED)
+    }
+}
+
+impl fmt::Display for Outcome {
+    fn fmt(&self, f: &mut fmt::Formatter<'_>) -> fmt::Result {
+        writeln!(f, "  code {} result {:?}", self.code, self.result)?;
+        writeln!(f, "  machine or state{}", hex_words(&self.words))?;
+        writeln!(f, "  memory{}", hex_words(&self.memory))?;
+        if !self.journal.is_empty() {
+            writeln!(f, "  journal{}", hex_words(&self.journal))?;
+        }
+        if !self.output.is_empty() {
+            writeln!(f, "  output {}", hex_bytes(&self.output))?;
+        }
+        if self.strayed {
+            writeln!(f, "  wrote next to what was lent")?;
+        }
+        Ok(())
+    }
+}

@@ -1,0 +1,64 @@
+//! Generated programs: runs, file runs, and gate runs around the clock total.
+
+use super::outcome::STOPPED;
+use super::{expected, gates, proved, run_case, same, Check};
+use reference::generate::program::{any_program, Program};
+use reference::rng::Rng;
+
+/// What the programs did, to show that they do different things.
+#[derive(Default)]
+pub struct Tally {
+    pub instructions: u64,
+    pub clocks: u64,
+    pub outside: u64,
+    pub journal_pairs: u64,
+}
+
+pub fn check(rng: &mut Rng, tally: &mut Tally) -> Check {
+    let program = any_program(rng);
+    let total = check_run(&program, tally)?;
+    check_file_run(rng, &program, tally)?;
+    gates::check_around(rng, &program, total)
+}
+
+/// Returns the clock total.
+fn check_run(program: &Program, tally: &mut Tally) -> Result<u64, String> {
+    let Program {
+        memory,
+        waits,
+        start,
+        count,
+    } = program;
+    let proved = proved::run(memory, waits, start, *count);
+    let expected = expected::run(memory, waits, start, *count);
+    same("run", &proved, &expected, || {
+        run_case(memory, start, waits, format_args!("count {count}"))
+    })?;
+    tally.instructions += expected.result[0];
+    tally.clocks += expected.result[1];
+    tally.outside += u64::from(expected.code == STOPPED);
+    Ok(expected.result[1])
+}
+
+/// With a journal of just enough places, of more, and of too few.
+fn check_file_run(rng: &mut Rng, program: &Program, tally: &mut Tally) -> Check {
+    let Program {
+        memory,
+        start,
+        count,
+        ..
+    } = program;
+    let enough = 2 * *count as usize;
+    for places in [enough, enough + rng.between(1, 5), rng.below(enough.max(1))] {
+        let proved = proved::file_run(memory, places, start, *count);
+        let expected = expected::file_run(memory, places, start, *count);
+        same("file run", &proved, &expected, || {
+            let far = format_args!("count {count} journal {places} places");
+            run_case(memory, start, &[], far)
+        })?;
+        if places == enough {
+            tally.journal_pairs += expected.result[1];
+        }
+    }
+    Ok(())
+}

@@ -1,0 +1,124 @@
+//! The outcomes of the proved calls.
+
+use super::lent::{guard, Lent};
+use super::outcome::Outcome;
+use crate::words::{machine_words, state_words};
+use fm8502::library;
+use reference::{GateState, Machine};
+
+/// Everything that one call is lent.
+struct Buffers {
+    memory: Lent<u32>,
+    words: Lent<u32>,
+    result: Lent<u64>,
+    journal: Lent<u32>,
+    output: Lent<u8>,
+}
+
+impl Buffers {
+    fn new(memory: &[u32], words: &[u32], places: usize) -> Buffers {
+        Buffers {
+            memory: Lent::new(memory),
+            words: Lent::new(words),
+            result: Lent::new(&vec![guard(); places]),
+            journal: Lent::new(&[]),
+            output: Lent::new(&[]),
+        }
+    }
+
+    fn after(self, code: u32) -> Outcome {
+        let guarded = self.memory.guarded()
+            && self.words.guarded()
+            && self.result.guarded()
+            && self.journal.guarded()
+            && self.output.guarded();
+        Outcome {
+            code,
+            words: self.words.content(),
+            result: self.result.content(),
+            memory: self.memory.content(),
+            journal: self.journal.content(),
+            output: self.output.content(),
+            strayed: !guarded,
+        }
+    }
+}
+
+pub fn run(memory: &[u32], waits: &[u16], machine: &Machine, count: u32) -> Outcome {
+    let mut lent = Buffers::new(memory, &machine_words(machine), 2);
+    let code = library::run(
+        lent.memory.slice(),
+        waits,
+        lent.words.slice(),
+        count,
+        lent.result.slice(),
+    );
+    lent.after(code)
+}
+
+/// The journal has `places` places.
+pub fn file_run(memory: &[u32], places: usize, machine: &Machine, count: u32) -> Outcome {
+    let mut lent = Buffers::new(memory, &machine_words(machine), 2);
+    lent.journal = Lent::new(&vec![guard(); places]);
+    let code = library::file_run(
+        lent.memory.slice(),
+        lent.journal.slice(),
+        lent.words.slice(),
+        count,
+        lent.result.slice(),
+    );
+    lent.after(code)
+}
+
+pub fn gate_run(memory: &[u32], waits: &[u16], state: &GateState, clocks: u64) -> Outcome {
+    gate_run_on(memory, waits, &state_words(state), clocks)
+}
+
+/// The state is given in its words, so that a call can go on from the last one.
+pub fn gate_run_on(memory: &[u32], waits: &[u16], state: &[u32], clocks: u64) -> Outcome {
+    let mut lent = Buffers::new(memory, state, 1);
+    let code = library::gate_run(
+        lent.memory.slice(),
+        waits,
+        lent.words.slice(),
+        clocks,
+        lent.result.slice(),
+    );
+    lent.after(code)
+}
+
+/// The state in its words, as for [`gate_run_on`].
+pub fn clock(memory: &[u32], waits: &[u16], state: &[u32]) -> Outcome {
+    let mut lent = Buffers::new(memory, state, 1);
+    let code = library::clock(
+        lent.memory.slice(),
+        waits,
+        lent.words.slice(),
+        lent.result.slice(),
+    );
+    lent.after(code)
+}
+
+pub fn image_read(image: &[u8], memory: &[u32]) -> Outcome {
+    let mut lent = Buffers::new(memory, &[guard(); 12], 1);
+    let code = library::image_read(
+        image,
+        lent.memory.slice(),
+        lent.words.slice(),
+        lent.result.slice(),
+    );
+    lent.after(code)
+}
+
+/// The output has `room` bytes.
+pub fn image_write(memory: &[u32], machine: &Machine, room: usize) -> Outcome {
+    let mut lent = Buffers::new(memory, &machine_words(machine), 1);
+    lent.output = Lent::new(&vec![guard(); room]);
+    let code = library::image_write(
+        lent.memory.slice(),
+        lent.words.slice(),
+        lent.output.slice(),
+        lent.result.slice(),
+    );
+    lent.after(code)
+}

@@ -1,0 +1,84 @@
+//! Calls that are refused for one reason or for several: which number comes first.
+
+use super::{expected, proved, run_case, same, Check};
+use reference::generate::program::{program, Kind};
+use reference::generate::state::{gate_state, refused_gate_state};
+use reference::image::image_size;
+use reference::rng::Rng;
+use reference::Machine;
+
+/// No entries, and as many as the list may have, one more, and more.
+const LIST_LENGTHS: [usize; 4] = [0, 65_536, 65_537, 70_000];
+
+/// Every combination of what can be wrong with a call, but for a memory that is
+/// too long. Returns how many calls were made.
+pub fn check(rng: &mut Rng) -> Result<usize, String> {
+    let good = program(rng, Kind::Tame);
+    let waits: Vec<u16> = (0..70_000).map(|_| rng.below(4) as u16).collect();
+    let mut calls = 0;
+    for memory in [&good.memory[..], &[]] {
+        for entries in LIST_LENGTHS {
+            check_run(memory, &waits[..entries], &good.start)?;
+            calls += 1 + check_gate(rng, memory, &waits[..entries])?;
+        }
+        calls += check_file_run(memory, &good.start)?;
+        calls += check_write(memory, &good.start)?;
+    }
+    Ok(calls)
+}
+
+fn check_run(memory: &[u32], waits: &[u16], start: &Machine) -> Check {
+    let proved = proved::run(memory, waits, start, 9);
+    let expected = expected::run(memory, waits, start, 9);
+    same("run", &proved, &expected, || {
+        run_case(memory, start, waits, "count 9")
+    })
+}
+
+fn check_gate(rng: &mut Rng, memory: &[u32], waits: &[u16]) -> Result<usize, String> {
+    const STATES: usize = 40;
+    for number in 0..STATES {
+        let state = match number % 4 {
+            0 => gate_state(rng, 16, waits.len()),
+            _ => refused_gate_state(rng, 16, waits.len()),
+        };
+        let clocks = rng.pick(&[0, 1, 50]);
+        let proved = proved::gate_run(memory, waits, &state, clocks);
+        let expected = expected::gate_run(memory, waits, &state, clocks);
+        same("gate run", &proved, &expected, || {
+            let far = format!("{state:X?}\nclocks {clocks}");
+            run_case(memory, &state.machine(), waits, far)
+        })?;
+    }
+    Ok(STATES)
+}
+
+fn check_file_run(memory: &[u32], start: &Machine) -> Result<usize, String> {
+    let mut calls = 0;
+    for count in [0, 1, 9, 65_536, 65_537, u32::MAX] {
+        let enough = 2 * count.min(65_537) as usize;
+        for places in [0, enough.saturating_sub(1), enough, enough + 1] {
+            let proved = proved::file_run(memory, places, start, count);
+            let expected = expected::file_run(memory, places, start, count);
+            same("file run", &proved, &expected, || {
+                let far = format_args!("count {count} journal {places} places");
+                run_case(memory, start, &[], far)
+            })?;
+            calls += 1;
+        }
+    }
+    Ok(calls)
+}
+
+fn check_write(memory: &[u32], start: &Machine) -> Result<usize, String> {
+    let size = image_size(memory.len());
+    let rooms = [0, 1, size - 1, size, size + 1];
+    for room in rooms {
+        let proved = proved::image_write(memory, start, room);
+        let expected = expected::image_write(memory, start, room);
+        same("image write", &proved, &expected, || {
+            run_case(memory, start, &[], format_args!("room {room} bytes"))
+        })?;
+    }
+    Ok(rooms.len())
+}

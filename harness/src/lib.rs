@@ -1,0 +1,15 @@
+//! Generated cases, comparisons and measurements for the proved emulator. The
+//! reference emulator says what is right.
+
+pub mod arguments;
+pub mod crosscheck;
+pub mod example;
+pub mod text;
+pub mod words;
+
+#[cfg(feature = "library")]
+pub mod baseline;
+#[cfg(feature = "library")]
+pub mod bench;
+#[cfg(feature = "library")]
+pub mod differential;

@@ -1,0 +1,57 @@
+//! The machine and the gate state as the words that the library takes.
+
+use reference::{Flags, GateState, Machine};
+
+/// r0 to r7, C, V, N, Z.
+pub fn machine_words(machine: &Machine) -> [u32; 12] {
+    let mut words = [0; 12];
+    words[..8].copy_from_slice(&machine.registers);
+    words[8..].copy_from_slice(&machine.flags.to_array().map(u32::from));
+    words
+}
+
+/// The inverse of [`machine_words`].
+pub fn machine_of(words: &[u32]) -> Machine {
+    let mut registers = [0; 8];
+    registers.copy_from_slice(&words[..8]);
+    Machine {
+        registers,
+        flags: Flags::from_array([8, 9, 10, 11].map(|i| words[i] != 0)),
+    }
+}
+
+/// The machine's words, row, latches, list position, begun, left.
+pub fn state_words(state: &GateState) -> [u32; 21] {
+    let mut words = [0; 21];
+    words[..12].copy_from_slice(&machine_words(&state.machine()));
+    words[12..].copy_from_slice(&[
+        u32::from(state.row),
+        state.instruction,
+        state.address,
+        state.a,
+        state.b,
+        state.result,
+        state.position,
+        u32::from(state.begun),
+        u32::from(state.left),
+    ]);
+    words
+}
+
+/// The inverse of [`state_words`].
+pub fn state_of(words: &[u32]) -> GateState {
+    let Machine { registers, flags } = machine_of(words);
+    GateState {
+        registers,
+        flags,
+        row: words[12] as u8,
+        instruction: words[13],
+        address: words[14],
+        a: words[15],
+        b: words[16],
+        result: words[17],
+        position: words[18],
+        begun: words[19] != 0,
+        left: words[20] as u16,
+    }
+}

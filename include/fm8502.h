@@ -1,0 +1,160 @@
+/*
+ * The proved emulator of the FM8502 recorder card, as a static library
+ * (target/staticlib/libhost.a).
+ *
+ * What is lent. A call works on the caller's arrays for its duration and keeps
+ * nothing. Each array passes as a pointer and a length in elements. It allocates
+ * nothing, has no state of its own, and may be called from several threads on
+ * different arrays.
+ *
+ * Every call ends, returns a code, and touches nothing but the arrays it is lent.
+ * It looks at its arguments in this order: the machine's, state's and result's
+ * form (FM8502_MISFIT), then the reasons to refuse, lowest number first except
+ * that an image's fields are taken one by one. After a refusal or a misfit
+ * everything lent is as it was.
+ *
+ * A null pointer with length 0 is fine for an empty array. Undefined are:
+ * - a length larger than the array that is lent;
+ * - a pointer that is not aligned for its elements;
+ * - arrays that overlap where the call may write to one of them.
+ */
+#ifndef FM8502_H
+#define FM8502_H
+
+#include <stddef.h>
+#include <stdint.h>
+
+#ifdef __cplusplus
+extern "C" {
+#endif
+
+/* ---- Limits and sizes */
+
+enum {
+    FM8502_MEMORY_WORDS = 16777216,   /* the longest memory */
+    FM8502_WAIT_ENTRIES = 65536,      /* the longest wait list, and the highest position */
+    FM8502_FILE_INSTRUCTIONS = 65536, /* the longest file run */
+    FM8502_MACHINE_WORDS = 12,
+    FM8502_STATE_WORDS = 21
+};
+
+/* Bytes of the image of a memory of so many words. */
+#define FM8502_IMAGE_SIZE(words) \
+    ((size_t)56 + 4 * (size_t)(words) + 3 * (((size_t)(words) + 1023) / 1024))
+
+/* ---- The machine: 12 words; the gate state: the same, and 9 more */
+
+enum {
+    FM8502_R0 = 0,       /* r0 to r7 are words 0 to 7; r0 is the program counter */
+    FM8502_CARRY = 8,    /* flags: a call writes 0 or 1, and reads any word but 0 as 1 */
+    FM8502_OVERFLOW = 9,
+    FM8502_NEGATIVE = 10,
+    FM8502_ZERO = 11,
+    /* from here on the gate state alone */
+    FM8502_ROW = 12,     /* the row to be done next; 0: between instructions */
+    FM8502_INSTRUCTION = 13,
+    FM8502_ADDRESS = 14,
+    FM8502_A = 15,
+    FM8502_B = 16,
+    FM8502_RESULT = 17,
+    FM8502_POSITION = 18, /* in the wait list */
+    FM8502_BEGUN = 19,    /* whether an access has begun: as a flag */
+    FM8502_LEFT = 20      /* its clocks left, the completing one included; at most 65,535 */
+};
+
+/* ---- Codes */
+
+enum {
+    FM8502_DONE = 0,     /* carried out; a run: "finished" */
+    /* Refused: the paper's numbers, which stand in this order. */
+    FM8502_NO_MEMORY = 1,
+    FM8502_MEMORY_TOO_LONG = 2,
+    FM8502_WAIT_LIST_TOO_LONG = 3,
+    FM8502_BAD_STATE = 4,
+    FM8502_FILE_TOO_LONG = 5,
+    FM8502_JOURNAL_TOO_SHORT = 6,
+    FM8502_OUTPUT_TOO_SHORT = 7,
+    FM8502_IMAGE_CUT = 8,
+    FM8502_BAD_TAG = 9,
+    FM8502_BAD_LENGTH = 10,
+    FM8502_BAD_VERSION = 11,
+    FM8502_BAD_FLAG = 12,
+    FM8502_BAD_WORD_COUNT = 13,
+    FM8502_MEMORY_TOO_SHORT = 14,
+    FM8502_TRAILING_BYTES = 15,
+    FM8502_STOPPED = 100, /* carried out: "outside", or "undone" for a file run */
+    FM8502_MISFIT = 200   /* machine, state or result of another length than named, or clocks left above 65,535 */
+};
+
+/* ---- Calls
+ *
+ * memory: 1 to FM8502_MEMORY_WORDS words (fm8502_image_read: any number).
+ * waits: at most FM8502_WAIT_ENTRIES entries.
+ * machine_words is 12, state_words 21; result_places is named at each call.
+ */
+
+/*
+ * Runs up to count instructions, and stops before one that needs a word that the
+ * memory does not have (FM8502_STOPPED). Memory and machine are then those before
+ * that instruction.
+ * result, 2 places: instructions that ran; their clock total, waits included.
+ * Codes: 0, 1, 2, 3, 100, 200.
+ */
+uint32_t fm8502_run(uint32_t *memory, size_t memory_words, const uint16_t *waits,
+                    size_t waits_entries, uint32_t *machine, size_t machine_words, uint32_t count,
+                    uint64_t *result, size_t result_places);
+
+/*
+ * Runs up to count instructions, at most FM8502_FILE_INSTRUCTIONS, without waits.
+ * Store number i to memory puts address and former word at journal[2 * i] and
+ * journal[2 * i + 1]; other places do not change. Where fm8502_run would be
+ * stopped, memory and machine go back to the start and the journal keeps its
+ * pairs (FM8502_STOPPED: "undone").
+ * journal: at least 2 * count places.
+ * result, 2 places: instructions that ran, also if undone; pairs in the journal.
+ * Codes: 0, 1, 2, 5, 6, 100, 200.
+ */
+uint32_t fm8502_file_run(uint32_t *memory, size_t memory_words, uint32_t *journal,
+                         size_t journal_places, uint32_t *machine, size_t machine_words,
+                         uint32_t count, uint64_t *result, size_t result_places);
+
+/*
+ * Does so many clocks of the gate machine. To start between instructions at the
+ * head of the wait list: the machine's 12 words, and 0 in the other 9.
+ * result, 1 place: instructions finished in these clocks.
+ * Codes: 0, 1, 2, 3, 4, 200.
+ */
+uint32_t fm8502_gate_run(uint32_t *memory, size_t memory_words, const uint16_t *waits,
+                         size_t waits_entries, uint32_t *state, size_t state_words,
+                         uint64_t clocks, uint64_t *result, size_t result_places);
+
+/* As fm8502_gate_run with one clock. */
+uint32_t fm8502_clock(uint32_t *memory, size_t memory_words, const uint16_t *waits,
+                      size_t waits_entries, uint32_t *state, size_t state_words, uint64_t *result,
+                      size_t result_places);
+
+/*
+ * Loads an image: its words to the front of memory, whose further words do not
+ * change, and its registers and flags to machine.
+ * result, 1 place: the number of words loaded.
+ * Codes: 0, 8 to 15, 200.
+ */
+uint32_t fm8502_image_read(const uint8_t *bytes, size_t bytes_length, uint32_t *memory,
+                           size_t memory_words, uint32_t *machine, size_t machine_words,
+                           uint64_t *result, size_t result_places);
+
+/*
+ * Writes the image of machine and memory to the front of out, whose further bytes
+ * do not change. out: at least FM8502_IMAGE_SIZE(memory_words) bytes.
+ * result, 1 place: the size of the image.
+ * Codes: 0, 1, 2, 7, 200.
+ */
+uint32_t fm8502_image_write(const uint32_t *memory, size_t memory_words, const uint32_t *machine,
+                            size_t machine_words, uint8_t *out, size_t out_length,
+                            uint64_t *result, size_t result_places);
+
+#ifdef __cplusplus
+}
+#endif
+
+#endif

@@ -1,0 +1,14 @@
+//! Reads an image from standard input and prints its ledger.
+
+use std::io::{self, Read, Write};
+
+use reference::ledger::{ledger, INPUT_LIMIT};
+
+fn main() -> io::Result<()> {
+    let mut image = Vec::new();
+    io::stdin()
+        .lock()
+        .take(INPUT_LIMIT as u64)
+        .read_to_end(&mut image)?;
+    io::stdout().write_all(ledger(&image).as_bytes())
+}

@@ -1,0 +1,222 @@
+//! The gate machine: document 01's twelve rows, one of them on each clock.
+
+use crate::gate_alu::gate_alu;
+use crate::instruction::{Instruction, Operand};
+use crate::machine::{Flags, Machine};
+use crate::refusal::{check_memory, check_waits, Refusal, WAIT_LIMIT};
+
+/// The state between two clocks.
+#[derive(Clone, Copy, Debug, Default, PartialEq, Eq)]
+pub struct GateState {
+    pub registers: [u32; 8],
+    pub flags: Flags,
+    /// The row to be done next; row 0 is between instructions.
+    pub row: u8,
+    pub instruction: u32,
+    pub address: u32,
+    pub a: u32,
+    pub b: u32,
+    pub result: u32,
+    /// Entries of the wait list already taken.
+    pub position: u32,
+    /// Whether the row's access has taken its entry but is not complete.
+    pub begun: bool,
+    /// Clocks the begun access still takes, the completing one included.
+    pub left: u16,
+}
+
+impl GateState {
+    /// Between instructions, latches 0, at the beginning of the wait list.
+    pub fn start(machine: Machine) -> GateState {
+        GateState {
+            registers: machine.registers,
+            flags: machine.flags,
+            ..GateState::default()
+        }
+    }
+
+    pub fn machine(&self) -> Machine {
+        Machine {
+            registers: self.registers,
+            flags: self.flags,
+        }
+    }
+
+    pub fn between_instructions(&self) -> bool {
+        self.row == 0
+    }
+}
+
+#[derive(Clone, Copy, Debug, PartialEq, Eq)]
+pub struct GateResult {
+    pub answer: Result<(), Refusal>,
+    pub state: GateState,
+    /// Instructions finished in this run.
+    pub finished: u64,
+}
+
+/// What became of one clock.
+#[derive(Clone, Copy, PartialEq, Eq)]
+enum Clock {
+    Moved,
+    Finished,
+    /// The address is absent; nothing changed.
+    Stalled,
+}
+
+/// Does `clocks` clocks.
+pub fn gate_run(memory: &mut [u32], waits: &[u16], state: GateState, clocks: u64) -> GateResult {
+    let mut result = GateResult {
+        answer: check(memory, waits, &state),
+        state,
+        finished: 0,
+    };
+    if result.answer.is_err() {
+        return result;
+    }
+    for _ in 0..clocks {
+        match clock(memory, waits, &mut result.state) {
+            Clock::Moved => {}
+            Clock::Finished => result.finished += 1,
+            // All clocks to come would stall as well and change nothing.
+            Clock::Stalled => break,
+        }
+    }
+    result
+}
+
+/// Advances a lent state by one clock: the checks and outcome of a run of one.
+/// Returns how many instructions finished, 0 or 1.
+pub fn gate_clock(
+    memory: &mut [u32],
+    waits: &[u16],
+    state: &mut GateState,
+) -> Result<u64, Refusal> {
+    check(memory, waits, state)?;
+    Ok(u64::from(clock(memory, waits, state) == Clock::Finished))
+}
+
+fn check(memory: &[u32], waits: &[u16], state: &GateState) -> Result<(), Refusal> {
+    check_memory(memory.len())?;
+    check_waits(waits.len())?;
+    let is_access = matches!(state.row, 1 | 4 | 6 | 9);
+    if state.row > 11
+        || state.position as usize > WAIT_LIMIT
+        || state.begun && !is_access
+        || state.begun != (state.left > 0)
+    {
+        return Err(Refusal::GateState);
+    }
+    Ok(())
+}
+
+/// One row, or one clock of an access. The rows follow the table whatever the
+/// instruction latch holds, as a lent state may stand in any row.
+fn clock(memory: &mut [u32], waits: &[u16], state: &mut GateState) -> Clock {
+    let instruction = Instruction::decode(state.instruction);
+    match state.row {
+        0 => {
+            state.address = state.registers[0];
+            state.row = 1;
+        }
+        2 => {
+            state.registers[0] = state.registers[0].wrapping_add(1);
+            state.row = 3;
+        }
+        3 => state.row = take_a(state, instruction.a),
+        5 => state.row = take_b(state, instruction.b),
+        7 => state.row = compute(state, instruction),
+        8 => {
+            state.registers[instruction.b.register()] = state.result;
+            state.row = 10;
+        }
+        10 => {
+            instruction.a.step_up(&mut state.registers);
+            state.row = 11;
+        }
+        11 => {
+            instruction.b.step_up(&mut state.registers);
+            state.row = 0;
+            return Clock::Finished;
+        }
+        _ => return access(memory, waits, state),
+    }
+    Clock::Moved
+}
+
+/// Row 3; returns the next row.
+fn take_a(state: &mut GateState, operand: Operand) -> u8 {
+    operand.step_down(&mut state.registers);
+    let content = state.registers[operand.register()];
+    if operand.in_memory() {
+        state.address = content;
+        4
+    } else {
+        state.a = content;
+        5
+    }
+}
+
+/// Row 5; returns the next row.
+fn take_b(state: &mut GateState, operand: Operand) -> u8 {
+    operand.step_down(&mut state.registers);
+    let content = state.registers[operand.register()];
+    if operand.in_memory() {
+        state.address = content;
+        6
+    } else {
+        state.b = content;
+        7
+    }
+}
+
+/// Row 7; returns the next row. The result is latched even if not stored.
+fn compute(state: &mut GateState, instruction: Instruction) -> u8 {
+    let old = state.flags;
+    let result = gate_alu(instruction.alu_operation(), state.a, state.b, old.carry);
+    state.result = result.word;
+    state.flags = old.updated(result.flags, instruction.permit);
+    if !instruction.stores(old) {
+        10
+    } else if instruction.b.in_memory() {
+        9
+    } else {
+        8
+    }
+}
+
+/// Rows 1, 4, 6 and 9.
+fn access(memory: &mut [u32], waits: &[u16], state: &mut GateState) -> Clock {
+    let Some(cell) = memory.get_mut(state.address as usize) else {
+        return Clock::Stalled;
+    };
+    if state.begun {
+        state.left -= 1;
+    } else if let Some(&wait) = waits.get(state.position as usize) {
+        state.left = wait;
+        state.position += 1;
+    }
+    state.begun = state.left > 0;
+    if state.begun {
+        return Clock::Moved;
+    }
+    state.row = match state.row {
+        1 => {
+            state.instruction = *cell;
+            2
+        }
+        4 => {
+            state.a = *cell;
+            5
+        }
+        6 => {
+            state.b = *cell;
+            7
+        }
+        _ => {
+            *cell = state.result;
+            10
+        }
+    };
+    Clock::Moved
+}

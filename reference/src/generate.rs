@@ -1,0 +1,13 @@
+//! Seeded generators of cases for comparing emulators.
+
+pub mod image;
+pub mod program;
+pub mod state;
+
+use crate::machine::Flags;
+use crate::rng::Rng;
+
+/// Any four flags.
+pub fn flags(rng: &mut Rng) -> Flags {
+    Flags::from_array([(); 4].map(|()| rng.flag()))
+}

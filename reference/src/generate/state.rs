@@ -1,0 +1,79 @@
+//! Gate states a host may lend, good and bad.
+
+use super::flags;
+use crate::gates::GateState;
+use crate::refusal::WAIT_LIMIT;
+use crate::rng::Rng;
+
+/// An accepted state in any row, for a memory of `words` words and a wait list
+/// of `entries` entries; the latches need not fit each other.
+pub fn gate_state(rng: &mut Rng, words: usize, entries: usize) -> GateState {
+    let row = rng.below(12) as u8;
+    let begun = is_access(row) && rng.flag();
+    let left = match rng.below(10) {
+        _ if !begun => 0,
+        0 => rng.between(1, usize::from(u16::MAX)) as u16,
+        _ => rng.between(1, 5) as u16,
+    };
+    let position = match rng.below(5) {
+        0 => rng.below(WAIT_LIMIT + 1),
+        1 => entries.min(WAIT_LIMIT),
+        _ => rng.below(entries.min(WAIT_LIMIT) + 1),
+    };
+    GateState {
+        registers: [(); 8].map(|()| latch(rng, words)),
+        flags: flags(rng),
+        row,
+        instruction: rng.word(),
+        address: latch(rng, words),
+        a: latch(rng, words),
+        b: latch(rng, words),
+        result: latch(rng, words),
+        position: position as u32,
+        begun,
+        left,
+    }
+}
+
+/// A state that is turned down with reason 4.
+pub fn refused_gate_state(rng: &mut Rng, words: usize, entries: usize) -> GateState {
+    let mut state = gate_state(rng, words, entries);
+    match rng.below(5) {
+        0 => state.row = rng.between(12, 255) as u8,
+        1 => {
+            state.position = if rng.flag() {
+                WAIT_LIMIT as u32 + 1
+            } else {
+                rng.word() | 0x0002_0000
+            }
+        }
+        2 => {
+            state.row = rng.pick(&[0, 2, 3, 5, 7, 8, 10, 11]);
+            state.begun = true;
+            state.left = rng.between(1, 5) as u16;
+        }
+        3 => {
+            state.row = rng.pick(&[1, 4, 6, 9]);
+            state.begun = true;
+            state.left = 0;
+        }
+        _ => {
+            state.begun = false;
+            state.left = rng.between(1, usize::from(u16::MAX)) as u16;
+        }
+    }
+    state
+}
+
+fn is_access(row: u8) -> bool {
+    matches!(row, 1 | 4 | 6 | 9)
+}
+
+/// Mostly an address within memory.
+fn latch(rng: &mut Rng, words: usize) -> u32 {
+    match rng.below(10) {
+        0 => rng.word(),
+        1 => words as u32,
+        _ => rng.below(words) as u32,
+    }
+}

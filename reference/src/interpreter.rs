@@ -1,0 +1,120 @@
+//! The interpreter: whole instructions, with the clocks they would take.
+
+use crate::alu::alu;
+use crate::instruction::{Instruction, Operand};
+use crate::machine::Machine;
+use crate::refusal::{check_memory, check_waits, Refusal};
+
+/// How a run ended.
+#[derive(Clone, Copy, Debug, PartialEq, Eq)]
+pub enum Answer {
+    Finished,
+    /// The next instruction needs a word that memory does not have.
+    Outside,
+    Refused(Refusal),
+}
+
+#[derive(Clone, Copy, Debug, PartialEq, Eq)]
+pub struct RunResult {
+    pub answer: Answer,
+    pub machine: Machine,
+    /// Instructions that ran.
+    pub ran: u32,
+    /// Clocks of the instructions that ran, their waits included.
+    pub clocks: u64,
+}
+
+/// What one instruction did besides changing the machine.
+#[derive(Clone, Copy, Debug, PartialEq, Eq)]
+pub struct Step {
+    /// Clocks without waits.
+    pub clocks: u64,
+    /// Memory accesses, each of which takes an entry of the wait list.
+    pub accesses: usize,
+    /// Address and former word of a store to memory.
+    pub stored: Option<(u32, u32)>,
+}
+
+/// Runs `count` instructions, or fewer if one would need a missing word.
+pub fn run(memory: &mut [u32], waits: &[u16], start: Machine, count: u32) -> RunResult {
+    let mut result = RunResult {
+        answer: Answer::Finished,
+        machine: start,
+        ran: 0,
+        clocks: 0,
+    };
+    if let Err(refusal) = check_memory(memory.len()).and_then(|()| check_waits(waits.len())) {
+        result.answer = Answer::Refused(refusal);
+        return result;
+    }
+    let mut waits = waits.iter();
+    while result.ran < count {
+        let Some(step) = step(memory, &mut result.machine) else {
+            result.answer = Answer::Outside;
+            break;
+        };
+        let waited: u64 = waits
+            .by_ref()
+            .take(step.accesses)
+            .copied()
+            .map(u64::from)
+            .sum();
+        result.clocks += step.clocks + waited;
+        result.ran += 1;
+    }
+    result
+}
+
+/// Carries out the instruction at r0. `None`, with nothing changed, if it needs
+/// a missing word; B's word is needed even where nothing will be stored.
+pub fn step(memory: &mut [u32], machine: &mut Machine) -> Option<Step> {
+    let before = machine.registers;
+    let step = try_step(memory, machine);
+    if step.is_none() {
+        machine.registers = before;
+    }
+    step
+}
+
+/// As [`step`], but r0 and registers stepped down stay so if a word is missing.
+fn try_step(memory: &mut [u32], machine: &mut Machine) -> Option<Step> {
+    let Machine { registers, flags } = machine;
+    let instruction = Instruction::decode(*memory.get(registers[0] as usize)?);
+    registers[0] = registers[0].wrapping_add(1);
+    let (a, _) = take(instruction.a, memory, registers)?;
+    let (b, address) = take(instruction.b, memory, registers)?;
+
+    let result = alu(instruction.alu_operation(), a, b, flags.carry);
+    let stores = instruction.stores(*flags);
+    *flags = flags.updated(result.flags, instruction.permit);
+    let mut stored = None;
+    if stores {
+        if instruction.b.in_memory() {
+            memory[address as usize] = result.word;
+            stored = Some((address, b));
+        } else {
+            registers[instruction.b.register()] = result.word;
+        }
+    }
+    instruction.a.step_up(registers);
+    instruction.b.step_up(registers);
+
+    let operands_in_memory =
+        usize::from(instruction.a.in_memory()) + usize::from(instruction.b.in_memory());
+    Some(Step {
+        clocks: 8 + operands_in_memory as u64 + u64::from(stores),
+        accesses: 1 + operands_in_memory + usize::from(stored.is_some()),
+        stored,
+    })
+}
+
+/// An operand's value and, if it is in memory, its address (otherwise 0).
+fn take(operand: Operand, memory: &[u32], registers: &mut [u32; 8]) -> Option<(u32, u32)> {
+    operand.step_down(registers);
+    let content = registers[operand.register()];
+    if operand.in_memory() {
+        Some((*memory.get(content as usize)?, content))
+    } else {
+        Some((content, 0))
+    }
+}

@@ -1,0 +1,44 @@
+//! The ledger: what an image's first instructions do, as text.
+
+use crate::image;
+use crate::interpreter::step;
+use crate::machine::{Flags, Machine};
+
+/// The most bytes the program reads: one more than the largest image needs.
+pub const INPUT_LIMIT: usize = 16_453;
+/// Words of memory lent to the image reader.
+pub const MEMORY_WORDS: usize = 4_096;
+/// The most instructions listed.
+pub const STEP_LIMIT: u32 = 16;
+
+/// The ledger of an image.
+pub fn ledger(image: &[u8]) -> String {
+    let mut memory = vec![0; MEMORY_WORDS];
+    let loaded = image::read(image, &mut memory);
+    match loaded.answer {
+        Err(refusal) => format!("refused {refusal}\n"),
+        Ok(()) => list(&mut memory[..loaded.words as usize], loaded.machine),
+    }
+}
+
+fn list(memory: &mut [u32], mut machine: Machine) -> String {
+    let mut text = String::from("step pc word clocks cvnz\n");
+    let mut total = 0;
+    for number in 1..=STEP_LIMIT {
+        let pc = machine.registers[0];
+        // Before the step, as the instruction may overwrite itself.
+        let word = memory.get(pc as usize).copied().unwrap_or_default();
+        let Some(step) = step(memory, &mut machine) else {
+            return text + &format!("outside {} {total}\n", number - 1);
+        };
+        total += step.clocks;
+        let flags = flag_digits(machine.flags);
+        text += &format!("{number} {pc:08X} {word:08X} {} {flags}\n", step.clocks);
+    }
+    text + &format!("finished {STEP_LIMIT} {total}\n")
+}
+
+fn flag_digits(flags: Flags) -> String {
+    let digit = |flag| if flag { '1' } else { '0' };
+    flags.to_array().map(digit).iter().collect()
+}

@@ -1,0 +1,25 @@
+//! An independent emulator of the FM8502 recorder card.
+//!
+//! "Document 01" is the paper that defines instructions, clocks and images;
+//! "report 48" is the FM8502 report it rests on. This library was written from
+//! those two alone, so that it can check another emulator.
+
+pub mod alu;
+pub mod file_run;
+pub mod gate_alu;
+pub mod gates;
+pub mod generate;
+pub mod image;
+pub mod instruction;
+pub mod interpreter;
+pub mod ledger;
+pub mod machine;
+pub mod refusal;
+pub mod rng;
+
+pub use file_run::{file_run, FileAnswer, FileResult};
+pub use gates::{gate_clock, gate_run, GateResult, GateState};
+pub use instruction::{Instruction, Operand};
+pub use interpreter::{run, step, Answer, RunResult, Step};
+pub use machine::{Flags, Machine};
+pub use refusal::Refusal;

@@ -1,0 +1,148 @@
+//! Both arithmetic units: against outside vectors and against each other.
+
+mod common;
+
+use common::machine;
+use reference::alu::alu;
+use reference::gate_alu::{gate_alu, ripple_add};
+use reference::rng::Rng;
+use reference::{run, Answer};
+
+/// 100 vectors for each operation, computed by the arithmetic unit of the
+/// FM9001. With the move bit 0 its operations, carries and overflows are those
+/// of the FM8502, so none has to be mapped; N and Z follow from the result.
+const VECTORS: &str = include_str!("../vectors/fm9001-alu.txt");
+
+struct Vector {
+    operation: u8,
+    a: u32,
+    b: u32,
+    carry_in: bool,
+    result: u32,
+    carry: bool,
+    overflow: bool,
+}
+
+fn vectors() -> Vec<Vector> {
+    let lines = VECTORS.lines().filter(|line| !line.starts_with('#'));
+    lines.map(vector).collect()
+}
+
+/// A line `operation a b c : result C V`.
+fn vector(line: &str) -> Vector {
+    let fields: Vec<&str> = line.split_whitespace().collect();
+    let [operation, a, b, carry_in, ":", result, carry, overflow] = fields[..] else {
+        panic!("not a vector: {line}");
+    };
+    let word = |text| u32::from_str_radix(text, 16).unwrap();
+    let bit = |text| match text {
+        "0" => false,
+        "1" => true,
+        _ => panic!("not a bit: {line}"),
+    };
+    Vector {
+        operation: operation.parse().unwrap(),
+        a: word(a),
+        b: word(b),
+        carry_in: bit(carry_in),
+        result: word(result),
+        carry: bit(carry),
+        overflow: bit(overflow),
+    }
+}
+
+#[test]
+fn vectors_of_the_fm9001() {
+    let vectors = vectors();
+    assert_eq!(vectors.len(), 1_600);
+    for v in vectors {
+        for result in [
+            alu(v.operation, v.a, v.b, v.carry_in),
+            gate_alu(v.operation, v.a, v.b, v.carry_in),
+        ] {
+            assert_eq!(result.word, v.result, "{} {:X} {:X}", v.operation, v.a, v.b);
+            assert_eq!(result.flags.carry, v.carry);
+            assert_eq!(result.flags.overflow, v.overflow);
+            assert_eq!(result.flags.negative, v.result >= 0x8000_0000);
+            assert_eq!(result.flags.zero, v.result == 0);
+        }
+    }
+}
+
+/// The vectors as instructions on r1 and r2 with all flags permitted.
+#[test]
+fn vectors_through_the_interpreter() {
+    for v in vectors() {
+        let word = u32::from(v.operation) << 16 | 0x3C41;
+        let digits = if v.carry_in { "1000" } else { "0000" };
+        let start = machine(&[(1, v.a), (2, v.b)], digits);
+        let result = run(&mut [word], &[], start, 1);
+        assert_eq!(result.answer, Answer::Finished);
+        assert_eq!(result.machine.registers[2], v.result);
+        assert_eq!(result.machine.flags.carry, v.carry);
+        assert_eq!(result.machine.flags.overflow, v.overflow);
+    }
+}
+
+fn check_units_agree(operation: u8, a: u32, b: u32) {
+    for carry in [false, true] {
+        let words = alu(operation, a, b, carry);
+        let gates = gate_alu(operation, a, b, carry);
+        assert_eq!(gates, words, "{operation} {a:X} {b:X} {carry}");
+    }
+}
+
+#[test]
+fn gates_give_the_defined_result() {
+    let corners = [0, 1, 2, 0x7FFF_FFFE, 0x7FFF_FFFF, 0x8000_0000, 0x8000_0001];
+    let corners = corners.into_iter().flat_map(|word| [word, !word]);
+    let corners: Vec<u32> = corners.collect();
+    for operation in 0..16 {
+        for &a in &corners {
+            for &b in &corners {
+                check_units_agree(operation, a, b);
+            }
+        }
+    }
+    let mut rng = Rng::new(1);
+    for _ in 0..300_000 {
+        let operation = rng.below(16) as u8;
+        let (a, b) = (rng.word(), rng.word());
+        check_units_agree(operation, a, b);
+    }
+}
+
+#[test]
+fn only_the_low_four_bits_of_the_operation_count() {
+    let mut rng = Rng::new(2);
+    for operation in 0..=255 {
+        let (a, b, carry) = (rng.word(), rng.word(), rng.flag());
+        let low = alu(operation & 15, a, b, carry);
+        assert_eq!(alu(operation, a, b, carry), low);
+        assert_eq!(gate_alu(operation, a, b, carry), low);
+    }
+}
+
+/// The adder of `N` bits on all its inputs.
+fn check_adder<const N: usize>() {
+    let bits = |number: usize| std::array::from_fn::<bool, N, _>(|i| number >> i & 1 == 1);
+    for x in 0..1 << N {
+        for y in 0..1 << N {
+            for carry in [false, true] {
+                let total = x + y + usize::from(carry);
+                let due = (bits(total), total >> N == 1);
+                assert_eq!(ripple_add(&bits(x), &bits(y), carry), due);
+            }
+        }
+    }
+}
+
+#[test]
+fn adders_of_small_widths() {
+    check_adder::<0>();
+    check_adder::<1>();
+    check_adder::<2>();
+    check_adder::<3>();
+    check_adder::<5>();
+    check_adder::<8>();
+}

@@ -1,0 +1,93 @@
+//! What several test files share.
+#![allow(dead_code)] // Each test file uses only part of it.
+
+use reference::generate::program::Program;
+use reference::{gate_clock, gate_run, run, Answer, Flags, GateState, Machine, RunResult};
+
+/// Flags from digits in the order C, V, N, Z.
+pub fn flags(digits: &str) -> Flags {
+    let digits: Vec<bool> = digits.bytes().map(|digit| digit == b'1').collect();
+    Flags::from_array(digits.try_into().expect("four digits"))
+}
+
+/// A machine with the given registers and flags, the other registers 0.
+pub fn machine(registers: &[(usize, u32)], digits: &str) -> Machine {
+    let mut machine = Machine {
+        registers: [0; 8],
+        flags: flags(digits),
+    };
+    for &(number, word) in registers {
+        machine.registers[number] = word;
+    }
+    machine
+}
+
+/// A run of the first n instructions and the memory it leaves.
+struct Prefix {
+    result: RunResult,
+    memory: Vec<u32>,
+}
+
+impl Prefix {
+    /// Whether all five parts of the two marks agree.
+    fn mark_equals(&self, finished: u64, state: &GateState, memory: &[u32]) -> bool {
+        u64::from(self.result.ran) == finished
+            && state.between_instructions()
+            && self.result.machine == state.machine()
+            && self.memory == memory
+    }
+}
+
+fn prefix(program: &Program, count: u32) -> Prefix {
+    let mut memory = program.memory.clone();
+    let result = run(&mut memory, &program.waits, program.start, count);
+    Prefix { result, memory }
+}
+
+/// Demand 3 for every n up to the program's count and every k up to `extra`
+/// clocks past the last total. `latches` gives the latches of the start.
+pub fn check_agreement(program: &Program, latches: GateState, extra: u64) {
+    let prefixes: Vec<Prefix> = (0..=program.count).map(|n| prefix(program, n)).collect();
+    let last = prefixes[prefixes.len() - 1].result;
+    let mut memory = program.memory.clone();
+    let mut state = gate_start(program.start, latches);
+    let mut finished = 0;
+    for k in 0..=last.clocks + extra {
+        for prefix in &prefixes {
+            match prefix.result.answer {
+                Answer::Finished => {
+                    let equal = prefix.mark_equals(finished, &state, &memory);
+                    let due = k == prefix.result.clocks;
+                    assert_eq!(equal, due, "clock {k} of {program:X?}");
+                }
+                _ => assert!(finished <= u64::from(prefix.result.ran), "{program:X?}"),
+            }
+        }
+        finished += gate_clock(&mut memory, &program.waits, &mut state).unwrap();
+    }
+    if last.answer == Answer::Outside {
+        check_never_more(program, latches, last.ran);
+    }
+}
+
+/// After "outside" the gate machine stalls, so that all clocks can be tried.
+fn check_never_more(program: &Program, latches: GateState, ran: u32) {
+    let mut memory = program.memory.clone();
+    let state = gate_start(program.start, latches);
+    let result = gate_run(&mut memory, &program.waits, state, u64::MAX);
+    assert_eq!(result.answer, Ok(()));
+    assert_eq!(result.finished, u64::from(ran), "{program:X?}");
+}
+
+/// A start of demand 3: any latches, but row 0, position 0 and no access begun.
+pub fn gate_start(machine: Machine, latches: GateState) -> GateState {
+    GateState {
+        registers: machine.registers,
+        flags: machine.flags,
+        row: 0,
+        position: 0,
+        begun: false,
+        left: 0,
+        ..latches
+    }
+}

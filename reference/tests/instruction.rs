@@ -1,0 +1,108 @@
+//! The fields of the instruction word, which both machines share.
+
+mod common;
+
+use common::{flags, machine};
+use reference::rng::Rng;
+use reference::{run, Flags, Instruction, Operand};
+
+#[test]
+fn fields_are_at_their_bits() {
+    let none = Instruction::decode(0);
+    assert_eq!((none.a, none.b), (Operand::Direct(0), Operand::Direct(0)));
+    assert_eq!(none.permit, flags("0000"));
+    assert!(!none.is_move && none.operation == 0);
+
+    assert_eq!(Instruction::decode(0x0000_0007).a, Operand::Direct(7));
+    assert_eq!(Instruction::decode(0x0000_000B).a, Operand::Indirect(3));
+    assert_eq!(Instruction::decode(0x0000_0015).a, Operand::Before(5));
+    assert_eq!(Instruction::decode(0x0000_0019).a, Operand::After(1));
+    assert_eq!(Instruction::decode(0x0000_00E0).b, Operand::Direct(7));
+    assert_eq!(Instruction::decode(0x0000_0160).b, Operand::Indirect(3));
+    assert_eq!(Instruction::decode(0x0000_02A0).b, Operand::Before(5));
+    assert_eq!(Instruction::decode(0x0000_0320).b, Operand::After(1));
+    assert_eq!(Instruction::decode(0x0000_0400).permit, flags("0001"));
+    assert_eq!(Instruction::decode(0x0000_0800).permit, flags("0010"));
+    assert_eq!(Instruction::decode(0x0000_1000).permit, flags("0100"));
+    assert_eq!(Instruction::decode(0x0000_2000).permit, flags("1000"));
+    assert!(Instruction::decode(0x0000_8000).is_move);
+    assert_eq!(Instruction::decode(0x0009_0000).operation, 9);
+}
+
+#[test]
+fn unused_bits_have_no_effect() {
+    for bit in [14].into_iter().chain(20..32) {
+        assert_eq!(Instruction::decode(1 << bit), Instruction::decode(0));
+    }
+}
+
+#[test]
+fn encoding_is_undone_by_decoding() {
+    let mut rng = Rng::new(19);
+    for _ in 0..10_000 {
+        let word = rng.word();
+        let instruction = Instruction::decode(word);
+        assert_eq!(instruction.encode(), word & 0x000F_BFFF);
+        assert_eq!(Instruction::decode(instruction.encode()), instruction);
+    }
+}
+
+/// Whether r1 is moved to r2 under a condition and the flags before.
+fn moves(condition: u32, before: Flags) -> bool {
+    let mut start = machine(&[(1, 7)], "0000");
+    start.flags = before;
+    let result = run(&mut [condition << 16 | 0x8041], &[], start, 1);
+    let moved = result.machine.registers[2] == 7;
+    assert_eq!(result.clocks, 8 + u64::from(moved));
+    assert_eq!(result.machine.flags, before);
+    moved
+}
+
+#[test]
+fn conditions() {
+    for bits in 0..16 {
+        let [c, v, n, z] = [8, 4, 2, 1].map(|bit| bits & bit != 0);
+        let before = Flags::from_array([c, v, n, z]);
+        let due = [!c, c, !v, v, !z, z, !n, n];
+        for condition in 0..16 {
+            let due = due.get(condition).copied().unwrap_or(true);
+            assert_eq!(moves(condition as u32, before), due, "{condition} {bits:b}");
+        }
+    }
+}
+
+/// Every set of permits, with all flags 0 and all flags 1 before.
+#[test]
+fn permits() {
+    // r1 + r2 is zero with carry and overflow, r3 + r4 negative without.
+    let top = 0x8000_0000;
+    let registers = [(1, top), (2, top), (3, top)];
+    let flags_after = |word: u32, before| {
+        let result = run(&mut [word], &[], machine(&registers, before), 1);
+        result.machine.flags
+    };
+    for permitted in 0..16 {
+        let [z, n, v, c] = [1, 2, 4, 8].map(|bit| permitted & bit != 0);
+        let zero = 0x0003_0041 | permitted << 10;
+        let due = Flags::from_array([c, v, false, z]);
+        assert_eq!(flags_after(zero, "0000"), due);
+        let due = Flags::from_array([true, true, !n, true]);
+        assert_eq!(flags_after(zero, "1111"), due);
+        let negative = 0x0003_0083 | permitted << 10;
+        let due = Flags::from_array([false, false, n, false]);
+        assert_eq!(flags_after(negative, "0000"), due);
+        let due = Flags::from_array([!c, !v, true, !z]);
+        assert_eq!(flags_after(negative, "1111"), due);
+    }
+}
+
+/// A move passes a on with C and V 0, whatever its operation field.
+#[test]
+fn moves_clear_permitted_carry_and_overflow() {
+    for condition in 0..16 {
+        let word = condition << 16 | 0xBC41;
+        let start = machine(&[(1, 0xFFFF_FFFF), (2, 0xFFFF_FFFF)], "1111");
+        let result = run(&mut [word], &[], start, 1);
+        assert_eq!(result.machine.flags, flags("0010"));
+    }
+}

@@ -1,0 +1,246 @@
+//! The fifteen reasons to turn a call down, and which of several is given.
+
+mod common;
+
+use common::machine;
+use reference::generate::state::{gate_state, refused_gate_state};
+use reference::image::{image_size, read, to_bytes, write};
+use reference::rng::Rng;
+use reference::{file_run, gate_run, run, Answer, FileAnswer, GateState, Machine, Refusal};
+
+const TOO_LONG: usize = 16_777_217;
+
+fn start() -> Machine {
+    machine(&[(0, 2), (5, 77)], "0101")
+}
+
+/// Zeros that the system need not provide until they are touched.
+fn zeros(words: usize) -> Vec<u32> {
+    vec![0; words]
+}
+
+fn run_refusal(memory: &mut [u32], waits: &[u16], count: u32) -> Option<u8> {
+    let result = run(memory, waits, start(), count);
+    let Answer::Refused(refusal) = result.answer else {
+        return None;
+    };
+    assert_eq!(result.machine, start());
+    assert_eq!((result.ran, result.clocks), (0, 0));
+    Some(refusal.number())
+}
+
+fn gate_refusal(memory: &mut [u32], waits: &[u16], state: GateState) -> Option<u8> {
+    let result = gate_run(memory, waits, state, 3);
+    let refusal = result.answer.err()?;
+    assert_eq!((result.state, result.finished), (state, 0));
+    Some(refusal.number())
+}
+
+fn file_refusal(memory: &mut [u32], journal: &mut [u32], count: u32) -> Option<u8> {
+    let former = journal.to_vec();
+    let result = file_run(memory, journal, start(), count);
+    let FileAnswer::Refused(refusal) = result.answer else {
+        return None;
+    };
+    assert_eq!(result.machine, start());
+    assert_eq!((result.ran, result.pairs), (0, 0));
+    assert_eq!(journal, former);
+    Some(refusal.number())
+}
+
+#[test]
+fn numbers_are_those_of_the_paper() {
+    let all = [
+        Refusal::NoMemory,
+        Refusal::MemoryTooLong,
+        Refusal::WaitListTooLong,
+        Refusal::GateState,
+        Refusal::FileTooLong,
+        Refusal::JournalTooShort,
+        Refusal::OutputTooShort,
+        Refusal::ImageCut,
+        Refusal::Tag,
+        Refusal::Length,
+        Refusal::Version,
+        Refusal::FlagByte,
+        Refusal::WordCount,
+        Refusal::LentMemoryTooShort,
+        Refusal::TrailingBytes,
+    ];
+    let numbers: Vec<u8> = all.iter().map(|refusal| refusal.number()).collect();
+    assert_eq!(numbers, (1..=15).collect::<Vec<u8>>());
+}
+
+#[test]
+fn interpreter() {
+    let long_list = vec![0; 65_537];
+    assert_eq!(run_refusal(&mut [], &[], 0), Some(1));
+    assert_eq!(run_refusal(&mut [], &long_list, 5), Some(1));
+    let mut long = zeros(TOO_LONG);
+    assert_eq!(run_refusal(&mut long, &long_list, 5), Some(2));
+    assert_eq!(run_refusal(&mut long[1..], &long_list, 5), Some(3));
+    assert_eq!(run_refusal(&mut long[1..], &long_list[1..], 5), None);
+    let mut memory = [3, 4, 5, 6];
+    assert_eq!(run_refusal(&mut memory, &long_list, 5), Some(3));
+    assert_eq!(memory, [3, 4, 5, 6]);
+}
+
+#[test]
+fn gate_machine() {
+    let long_list = vec![0; 65_537];
+    let bad = GateState {
+        row: 12,
+        ..GateState::default()
+    };
+    assert_eq!(gate_refusal(&mut [], &long_list, bad), Some(1));
+    let mut long = zeros(TOO_LONG);
+    assert_eq!(gate_refusal(&mut long, &long_list, bad), Some(2));
+    assert_eq!(gate_refusal(&mut long[1..], &long_list, bad), Some(3));
+    assert_eq!(gate_refusal(&mut [7], &long_list[1..], bad), Some(4));
+    let good = GateState::default();
+    assert_eq!(gate_refusal(&mut [7], &long_list[1..], good), None);
+}
+
+/// Each bound of reason 4 from both sides.
+#[test]
+fn gate_states() {
+    let state = |row, position, begun, left| GateState {
+        row,
+        position,
+        begun,
+        left,
+        ..GateState::default()
+    };
+    let is_refused = |state| gate_refusal(&mut [7], &[], state) == Some(4);
+    for row in 0..=255 {
+        let access = [1, 4, 6, 9].contains(&row);
+        assert_eq!(is_refused(state(row, 0, false, 0)), row > 11);
+        assert_eq!(is_refused(state(row, 0, true, 1)), !access);
+        assert!(is_refused(state(row, 0, true, 0)));
+        assert!(is_refused(state(row, 0, false, 1)));
+        assert!(is_refused(state(row, 0, false, u16::MAX)));
+    }
+    assert!(!is_refused(state(0, 65_536, false, 0)));
+    assert!(is_refused(state(0, 65_537, false, 0)));
+    assert!(is_refused(state(0, u32::MAX, false, 0)));
+    assert!(!is_refused(state(9, 65_536, true, u16::MAX)));
+}
+
+#[test]
+fn generated_gate_states() {
+    let mut rng = Rng::new(9);
+    for _ in 0..20_000 {
+        let entries = rng.below(10);
+        let waits = vec![2; entries];
+        let bad = refused_gate_state(&mut rng, 4, entries);
+        assert_eq!(gate_refusal(&mut [7; 4], &waits, bad), Some(4));
+        let good = gate_state(&mut rng, 4, entries);
+        assert_eq!(gate_refusal(&mut [7; 4], &waits, good), None);
+    }
+}
+
+#[test]
+fn file_runs() {
+    assert_eq!(file_refusal(&mut [], &mut [], 65_537), Some(1));
+    let mut long = zeros(TOO_LONG);
+    assert_eq!(file_refusal(&mut long, &mut [], 65_537), Some(2));
+    assert_eq!(file_refusal(&mut long[1..], &mut [], 65_537), Some(5));
+    assert_eq!(file_refusal(&mut [7], &mut [], u32::MAX), Some(5));
+    let mut journal = vec![1; 131_072];
+    assert_eq!(file_refusal(&mut [7], &mut journal, 65_537), Some(5));
+    assert_eq!(file_refusal(&mut [7], &mut journal[1..], 65_536), Some(6));
+    assert_eq!(file_refusal(&mut [7], &mut journal, 65_536), None);
+    assert_eq!(file_refusal(&mut [7], &mut [], 1), Some(6));
+    assert_eq!(file_refusal(&mut [7], &mut [0; 1], 1), Some(6));
+    assert_eq!(file_refusal(&mut [7], &mut [0; 2], 1), None);
+    assert_eq!(file_refusal(&mut [7], &mut [], 0), None);
+}
+
+#[test]
+fn image_writer() {
+    let refusal = |memory: &[u32], output: &mut [u8]| {
+        let former = output.to_vec();
+        let refusal = write(&start(), memory, output).err();
+        assert!(refusal.is_none() || output == former);
+        refusal.map(Refusal::number)
+    };
+    assert_eq!(refusal(&[], &mut []), Some(1));
+    let long = zeros(TOO_LONG);
+    assert_eq!(refusal(&long, &mut []), Some(2));
+    assert_eq!(refusal(&long[1..], &mut []), Some(7));
+    assert_eq!(refusal(&[7], &mut [9; 62]), Some(7));
+    assert_eq!(refusal(&[7], &mut [9; 63]), None);
+    assert_eq!(refusal(&[7; 1_025], &mut vec![9; 4_161]), Some(7));
+    assert_eq!(image_size(1_025), 4_162);
+}
+
+/// The reader's number for an image; memory must stay and all must be 0.
+fn read_refusal(image: &[u8], lent: usize) -> Option<u8> {
+    let mut memory = vec![0xABCD_EF01; lent];
+    let result = read(image, &mut memory);
+    let refusal = result.answer.err()?;
+    assert_eq!((result.machine, result.words), (Machine::default(), 0));
+    assert!(memory.iter().all(|&word| word == 0xABCD_EF01));
+    Some(refusal.number())
+}
+
+/// The image of two words with the bytes from `at` on replaced.
+fn changed(at: usize, bytes: &[u8]) -> Vec<u8> {
+    let mut image = to_bytes(&start(), &[0x11, 0x22]).unwrap();
+    image[at..at + bytes.len()].copy_from_slice(bytes);
+    image
+}
+
+#[test]
+fn image_reader_numbers() {
+    assert_eq!(read_refusal(&changed(0, &[]), 2), None);
+    for header in [0, 4, 39, 46, 53, 64] {
+        assert_eq!(read_refusal(&changed(header, &[0x77]), 2), Some(9));
+        assert_eq!(read_refusal(&changed(header + 1, &[0x77]), 2), Some(10));
+        assert_eq!(read_refusal(&changed(header + 2, &[0x77]), 2), Some(10));
+    }
+    assert_eq!(read_refusal(&changed(3, &[0]), 2), Some(11));
+    assert_eq!(read_refusal(&changed(3, &[2]), 2), Some(11));
+    for flag in 42..46 {
+        assert_eq!(read_refusal(&changed(flag, &[2]), 2), Some(12));
+        assert_eq!(read_refusal(&changed(flag, &[255]), 2), Some(12));
+    }
+    assert_eq!(read_refusal(&changed(49, &[0, 0, 0, 0]), 2), Some(13));
+    assert_eq!(read_refusal(&changed(49, &[1, 0, 0, 1]), 2), Some(13));
+    assert_eq!(read_refusal(&changed(49, &[0, 0, 0, 1]), 2), Some(14));
+    assert_eq!(read_refusal(&changed(49, &[3, 0, 0, 0]), 2), Some(14));
+    assert_eq!(read_refusal(&changed(49, &[3, 0, 0, 0]), 3), Some(10));
+    assert_eq!(read_refusal(&changed(49, &[1, 0, 0, 0]), 2), Some(10));
+    assert_eq!(read_refusal(&changed(0, &[]), 1), Some(14));
+    assert_eq!(read_refusal(&changed(0, &[]), 0), Some(14));
+}
+
+/// The order within a field: header cut, tag, length, value cut, value.
+#[test]
+fn image_reader_order() {
+    assert_eq!(read_refusal(&[], 2), Some(8));
+    assert_eq!(read_refusal(&[0x99], 2), Some(8));
+    assert_eq!(read_refusal(&[0x99, 9], 2), Some(8));
+    assert_eq!(read_refusal(&[0x99, 9, 9], 2), Some(9));
+    assert_eq!(read_refusal(&[1, 9, 0], 2), Some(10));
+    assert_eq!(read_refusal(&[1, 1, 0], 2), Some(8));
+    assert_eq!(read_refusal(&[1, 1, 0, 2], 2), Some(11));
+    assert_eq!(read_refusal(&[1, 1, 0, 1], 2), Some(8));
+    // A bad flag is found only once the whole value is there.
+    let bad_flag = changed(42, &[2]);
+    assert_eq!(read_refusal(&bad_flag[..45], 2), Some(8));
+    assert_eq!(read_refusal(&bad_flag[..46], 2), Some(12));
+    // M is judged before the fields that follow it, 13 before 14.
+    let zero = changed(49, &[0, 0, 0, 0]);
+    assert_eq!(read_refusal(&zero[..52], 0), Some(8));
+    assert_eq!(read_refusal(&zero[..53], 0), Some(13));
+    let huge = changed(49, &[255; 4]);
+    assert_eq!(read_refusal(&huge, 0), Some(13));
+    // An earlier field comes first, whatever the number.
+    let mut both = changed(0, &[]);
+    both[3] = 2;
+    both[39] = 0x77;
+    assert_eq!(read_refusal(&both, 2), Some(11));
+    both.push(0);
+    assert_eq!(read_refusal(&both, 2), Some(11));
+}

@@ -1,0 +1,41 @@
+#!/usr/bin/env bash
+# Makes the generated files again from their seeds and sources, with the reference emulator's results.
+# --check: changes nothing, and fails where a file is not what its generator writes.
+set -euo pipefail
+cd "$(dirname "$0")/.."
+. tests/tools.sh
+
+new=$(mktemp -d)
+trap 'rm -rf "$new"' EXIT
+cargo build --quiet --release --offline --manifest-path reference/Cargo.toml
+cargo build --quiet --release --offline --manifest-path harness/Cargo.toml
+make_image=reference/target/release/make_image
+ledger=reference/target/release/ledger
+bin=harness/target/release
+
+# FILE COMMAND..: what COMMAND writes is FILE
+made() {
+    file=$1
+    shift
+    "$@" >"$new/out"
+    if [ "$check" = yes ]; then
+        cmp -s "$new/out" "$file" || { echo "$file is stale: run tests/generate.sh" >&2; exit 1; }
+    else
+        mkdir -p "$(dirname "$file")"
+        cp "$new/out" "$file"
+    fi
+}
+
+check=no
+[ "${1:-}" != --check ] || check=yes
+
+made crates/definition_cases/specs/Cases.antt "$bin/definition_cases"
+made crates/crosscheck/stdin "$bin/crosscheck_cases" stdin
+made crates/crosscheck/stdout "$bin/crosscheck_cases" stdout
+
+made examples/stacking.image "$make_image" -w examples/stacking.words -m 48 -r 1=18 -r 4=4 -r 5=3 -r 6=F
+made examples/outside.image "$make_image" -w examples/outside.words -m 11 -r 1=8 -r 2=4 -r 3=4
+made examples/stacking.ledger "$ledger" <examples/stacking.image
+made examples/outside.ledger "$ledger" <examples/outside.image
+
+made bindings/expected.txt "$bin/example_text" examples
