@@ -1,0 +1,5 @@
+mod LayoutLaws
+mod LentLaws
+mod CodeLaws
+mod FitLaws
+mod CallLaws

@@ -1,0 +1,130 @@
+// The exported calls, for C, Rust and Python: numbers and slices alone. specs/Layout.antt has the layout of what is lent, specs/Codes.antt
+// the codes that are returned, and specs/Calls.antt what each call leaves.
+mod codes;
+mod layout;
+mod lent;
+
+use codes::MISFIT;
+use layout::machine_in;
+use layout::state_fits;
+use layout::state_in;
+use lent::end_file_run;
+use lent::end_gate_run;
+use lent::end_read;
+use lent::end_run;
+use lent::end_write;
+ghost use Rattle.host.specs.Calls.{RunCall, FileCall, GateCall, ReadCall, WriteCall};
+
+// A run of the interpreter. result: instructions that ran, clock total.
+#[no_mangle]
+pub extern "C" fn fm8502_run(
+    memory: &mut [u32],
+    waits: &[u16],
+    machine: &mut [u32],
+    count: u32,
+    result: &mut [u64],
+) -> u32
+    ensures { λ r. ⌜ RunCall (now (memory .entry)) (now (waits .entry)) (now (machine .entry)) count (now (result .entry)) (now (memory .exit)) (now (machine .exit)) (now (result .exit)) r ⌝ }
+{
+    let fits = (machine.len() == 12) & (result.len() == 2);
+    if !fits {
+        return MISFIT;
+    }
+    let r = interpreter::run(&mut *memory, waits, machine_in(&machine[..]), count);
+    end_run(r, &mut *machine, &mut *result)
+}
+
+// A file run. result: instructions that ran, pairs in the journal.
+#[no_mangle]
+pub extern "C" fn fm8502_file_run(
+    memory: &mut [u32],
+    journal: &mut [u32],
+    machine: &mut [u32],
+    count: u32,
+    result: &mut [u64],
+) -> u32
+    ensures { λ r. ⌜ FileCall (now (memory .entry)) (now (journal .entry)) (now (machine .entry)) count (now (result .entry)) (now (memory .exit)) (now (journal .exit)) (now (machine .exit)) (now (result .exit)) r ⌝ }
+{
+    let fits = (machine.len() == 12) & (result.len() == 2);
+    if !fits {
+        return MISFIT;
+    }
+    let r = interpreter::file_run(&mut *memory, &mut *journal, machine_in(&machine[..]), count);
+    end_file_run(r, &mut *machine, &mut *result)
+}
+
+// A gate run. result: instructions finished.
+#[no_mangle]
+pub extern "C" fn fm8502_gate_run(
+    memory: &mut [u32],
+    waits: &[u16],
+    state: &mut [u32],
+    clocks: u64,
+    result: &mut [u64],
+) -> u32
+    ensures { λ r. ⌜ GateCall (now (memory .entry)) (now (waits .entry)) (now (state .entry)) clocks (now (result .entry)) (now (memory .exit)) (now (state .exit)) (now (result .exit)) r ⌝ }
+{
+    if !state_fits(&state[..], result.len()) {
+        return MISFIT;
+    }
+    let r = gate_machine::run(&mut *memory, waits, state_in(&state[..]), clocks);
+    let answer = r.answer;
+    let after = r.state;
+    end_gate_run(answer, after, r.finished, &mut *state, &mut *result)
+}
+
+// One clock. result: instructions finished.
+#[no_mangle]
+pub extern "C" fn fm8502_clock(
+    memory: &mut [u32],
+    waits: &[u16],
+    state: &mut [u32],
+    result: &mut [u64],
+) -> u32
+    ensures { λ r. ⌜ GateCall (now (memory .entry)) (now (waits .entry)) (now (state .entry)) 1 (now (result .entry)) (now (memory .exit)) (now (state .exit)) (now (result .exit)) r ⌝ }
+{
+    if !state_fits(&state[..], result.len()) {
+        return MISFIT;
+    }
+    let r = gate_machine::clock(state_in(&state[..]), &mut *memory, waits);
+    let outcome = r.outcome;
+    let answer = outcome.answer;
+    let after = r.state;
+    end_gate_run(answer, after, outcome.finished, &mut *state, &mut *result)
+}
+
+// Reads an image: its words to the front of memory, its machine. result: the image's words.
+#[no_mangle]
+pub extern "C" fn fm8502_image_read(
+    bytes: &[u8],
+    memory: &mut [u32],
+    machine: &mut [u32],
+    result: &mut [u64],
+) -> u32
+    ensures { λ r. ⌜ ReadCall (now (bytes .entry)) (now (memory .entry)) (now (machine .entry)) (now (result .entry)) (now (memory .exit)) (now (machine .exit)) (now (result .exit)) r ⌝ }
+{
+    let fits = (machine.len() == 12) & (result.len() == 1);
+    if !fits {
+        return MISFIT;
+    }
+    let r = image_reader::read(bytes, &mut *memory);
+    end_read(r, &mut *machine, &mut *result)
+}
+
+// Writes the image of a machine and its memory to the front of out. result: the image's bytes.
+#[no_mangle]
+pub extern "C" fn fm8502_image_write(
+    memory: &[u32],
+    machine: &[u32],
+    out: &mut [u8],
+    result: &mut [u64],
+) -> u32
+    ensures { λ r. ⌜ WriteCall (now (memory .entry)) (now (machine .entry)) (now (out .entry)) (now (result .entry)) (now (out .exit)) (now (result .exit)) r ⌝ }
+{
+    let fits = (machine.len() == 12) & (result.len() == 1);
+    if !fits {
+        return MISFIT;
+    }
+    let r = image_writer::write(memory, machine_in(machine), &mut *out);
+    end_write(r, &mut *result)
+}
