@@ -1,6 +1,6 @@
 -- Demand 3 for the two public calls, from the model's agreement and the calls' contracts.
 -- Assumes nothing.
-use Prim.Native.Nat.{ℕ, _≤_}
+use Prim.Native.Nat.{ℕ}
 use mathlib.Core.Path.{_≡_, refl, sym, ap, _∙_}
 use mathlib.Core.List.{List}
 use native.Mathlib.Omega.{arith}
@@ -8,11 +8,10 @@ use Rattle.model.specs.declared.GateState.{GateState}
 use Rattle.model.specs.declared.Machine.{Machine}
 use Rattle.model.specs.declared.Ending.{Ending}
 use Rattle.model.specs.declared.Ending.the-variants.{Finished, Outside}
-use Rattle.model.specs.declared.Refusal.{Refusal}
-use Rattle.model.specs.declared.Refusal.the-variants.{NoWords, TooManyWords, LongWaitList, BadGateState, TooManyInstructions, ShortJournal, ShortOutput, CutImage, WrongTag, WrongLength, WrongVersion, BadFlag, BadWordCount, ShortMemory, TrailingBytes}
+use Rattle.model.proofs.Verdicts.{numbered}
 use Rattle.model.specs.declared.Verdict.{Verdict}
 use Rattle.model.specs.declared.Verdict.the-variants.{Accepted, Refused}
-use Rattle.model.specs.Refusals.{refusalNumber, verdictNumber, _then_, memoryFits, waitsFit, runVerdict, gateVerdict}
+use Rattle.model.specs.Refusals.{verdictNumber, _then_, memoryFits, waitsFit, runVerdict, gateVerdict}
 use Rattle.model.specs.Interpreter.{Run, begin, interpret}
 use Rattle.model.specs.Gates.{Gate, gate, gateRun}
 use Rattle.model.specs.Agreement.{machineOf, gateFrom, interpreterFrom}
@@ -36,27 +35,9 @@ same-verdict memory waits start h =
     let v = valid-verdict start (resting start (rw (h .row) (omega arith)) (rw (h .position) (omega arith)) (h .begun) (h .left)) in
     ap (λ (w : Verdict). memoryFits memory then waitsFit waits then w) v ∙ ap (λ (w : Verdict). memoryFits memory then w) (last (waitsFit waits))
 
--- every reason has a number other than 0
-numbered : (why : Refusal) → 1 ≤ refusalNumber why
-numbered NoWords = omega arith
-numbered TooManyWords = omega arith
-numbered LongWaitList = omega arith
-numbered BadGateState = omega arith
-numbered TooManyInstructions = omega arith
-numbered ShortJournal = omega arith
-numbered ShortOutput = omega arith
-numbered CutImage = omega arith
-numbered WrongTag = omega arith
-numbered WrongLength = omega arith
-numbered WrongVersion = omega arith
-numbered BadFlag = omega arith
-numbered BadWordCount = omega arith
-numbered ShortMemory = omega arith
-numbered TrailingBytes = omega arith
-
 pub accepted : (v : Verdict) → verdictNumber v ≡ 0 → v ≡ Accepted
 accepted Accepted e = refl
-accepted (Refused why) e = absurd (omega (arith, numbered why))
+accepted (Refused why) e = absurd (omega (arith, numbered why .0))
 
 finished-as : (e : Ending) → runAnswer e ≡ RunAnswer.Finished → e ≡ Finished
 finished-as Finished q = refl

@@ -5,6 +5,7 @@ use super::input::least;
 use model::Flags;
 use model::Machine;
 use model::Refusal;
+use refusals::refusal_number;
 use text::put_decimal;
 use text::put_hexadecimal;
 use text::put_text;
@@ -58,32 +59,11 @@ pub fn put_machine(out: &mut [u8], at: usize, machine: Machine) -> usize {
     put_words(out, next, &regs)
 }
 
-// Document 01's number of a refusal.
-fn number_of(why: Refusal) -> u64 {
-    match why {
-        Refusal::NoWords => 1,
-        Refusal::TooManyWords => 2,
-        Refusal::LongWaitList => 3,
-        Refusal::BadGateState => 4,
-        Refusal::TooManyInstructions => 5,
-        Refusal::ShortJournal => 6,
-        Refusal::ShortOutput => 7,
-        Refusal::CutImage => 8,
-        Refusal::WrongTag => 9,
-        Refusal::WrongLength => 10,
-        Refusal::WrongVersion => 11,
-        Refusal::BadFlag => 12,
-        Refusal::BadWordCount => 13,
-        Refusal::ShortMemory => 14,
-        Refusal::TrailingBytes => 15,
-    }
-}
-
 // The line's name, refused, N
 pub fn put_refused(out: &mut [u8], name: &[u8], why: Refusal) -> usize {
     let named = put_text(out, 0, name);
     let next = forward(named, put_text(out, named, b" refused"));
-    put_number(out, next, number_of(why))
+    put_number(out, next, refusal_number(why) as u64)
 }
 
 fn write_front(out: &[u8], count: usize) {

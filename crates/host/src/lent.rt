@@ -1,7 +1,6 @@
 // What a call writes at its end: nothing, unless it was carried out.
 use super::codes::DONE;
 use super::codes::STOPPED;
-use super::codes::refusal_number;
 use super::layout::latch_words;
 use super::layout::machine_words;
 use gate_machine::GateAnswer;
@@ -14,6 +13,7 @@ use interpreter::RunAnswer;
 use interpreter::RunResult;
 use model::GateState;
 use model::Machine;
+use refusals::refusal_number;
 ghost use mathlib.Core.Path.{_≡_};
 ghost use mathlib.Core.List.{[], _∷_};
 ghost use lib.ListN.{length};

@@ -7,30 +7,7 @@ use libc::STDOUT_FILENO;
 use model::Flags;
 use model::Machine;
 use model::Refusal;
-ghost use mathlib.Core.Path.{_≡_};
-ghost use Rattle.model.specs.Refusals.{refusalNumber};
-
-fn refusal_number(why: Refusal) -> u64
-    ensures { λ r. ⌜ r ≡ refusalNumber why ⌝ }
-{
-    match why {
-        Refusal::NoWords => 1,
-        Refusal::TooManyWords => 2,
-        Refusal::LongWaitList => 3,
-        Refusal::BadGateState => 4,
-        Refusal::TooManyInstructions => 5,
-        Refusal::ShortJournal => 6,
-        Refusal::ShortOutput => 7,
-        Refusal::CutImage => 8,
-        Refusal::WrongTag => 9,
-        Refusal::WrongLength => 10,
-        Refusal::WrongVersion => 11,
-        Refusal::BadFlag => 12,
-        Refusal::BadWordCount => 13,
-        Refusal::ShortMemory => 14,
-        Refusal::TrailingBytes => 15,
-    }
-}
+use refusals::refusal_number;
 
 fn machine() -> Machine {
     let flags = Flags {
@@ -112,14 +89,14 @@ fn size_of(result: WriteResult) -> usize {
 fn write_number(result: WriteResult) -> u64 {
     match result {
         WriteResult::Written(_) => 0,
-        WriteResult::Refused(why) => refusal_number(why),
+        WriteResult::Refused(why) => refusal_number(why) as u64,
     }
 }
 
 fn read_number(answer: ReadAnswer) -> u64 {
     match answer {
         ReadAnswer::Loaded(_) => 0,
-        ReadAnswer::Refused(why) => refusal_number(why),
+        ReadAnswer::Refused(why) => refusal_number(why) as u64,
     }
 }
 

@@ -22,10 +22,10 @@ use Rattle.interpreter.specs.declared.RunResult.{RunResult}
 use Rattle.interpreter.specs.declared.FileAnswer.{FileAnswer}
 use Rattle.interpreter.specs.declared.FileResult.{FileResult}
 use Rattle.interpreter.specs.declared.engine.Ended.{Ended}
-use Rattle.interpreter.specs.Journals.{undone}
+use Rattle.journal.specs.Journals.{undone}
 use Rattle.interpreter.specs.Runs.{Ends}
 use Rattle.interpreter.specs.Calls.{runAnswer, runResult, runMemory, runNumber, Runs, fileEnd, fileResult, fileMemory, fileJournal, fileNumber, FileRuns}
-use Rattle.interpreter.proofs.JournalLaws.{back}
+use Rattle.journal.proofs.JournalLaws.{back}
 
 -- ---- the run
 

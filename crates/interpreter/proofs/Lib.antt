@@ -1,4 +1,3 @@
 pub mod ClockLaws
-pub mod JournalLaws
 pub mod RunLaws
 pub mod CallLaws

@@ -26,7 +26,7 @@ use Rattle.interpreter.specs.declared.clocks.Spent.{Spent}
 use Rattle.interpreter.specs.declared.engine.Ended.{Ended}
 use Rattle.interpreter.specs.Clocks.{clockedOf}
 use Rattle.interpreter.specs.Runs.{Ends}
-use Rattle.interpreter.proofs.JournalLaws.{noted-length, noted-words}
+use Rattle.journal.proofs.JournalLaws.{noted-length, noted-words}
 
 abbrev runAt : List ℕ → Flags → List ℕ → ℕ → ℕ → ℕ → I.Run
 runAt regs flags memory position ran clocks =

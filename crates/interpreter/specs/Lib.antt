@@ -1,4 +1,3 @@
 pub mod Clocks
-pub mod Journals
 pub mod Runs
 pub mod Calls

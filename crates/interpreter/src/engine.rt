@@ -37,13 +37,10 @@ pub fn engine(
     while i < count {
         let s = step(&mut regs, &mut *memory, &mut *journal, pairs, flags);
         if !s.inside {
-            let stopped = unpacked(flags);
+            let old = unpacked(flags);
             return Ended {
                 ending: Ending::Outside,
-                machine: Machine {
-                    regs,
-                    flags: stopped,
-                },
+                machine: Machine { regs, flags: old },
                 ran: i,
                 clocks,
                 pairs,

@@ -1,7 +1,6 @@
 // The interpreter: runs of whole instructions with waits and clocks, and the file run with its undo journal.
 mod clocks;
 mod engine;
-mod journal;
 
 use engine::engine;
 use journal::undo;

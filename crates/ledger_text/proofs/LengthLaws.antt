@@ -1,6 +1,6 @@
 -- How long the texts are: none is longer than `longestText`.
 -- Assumes nothing.
-use Prim.Native.Nat.{ℕ, zero, suc, _+_, _-_, _*_, _^_, _≤_, _<_}
+use Prim.Native.Nat.{ℕ, zero, suc, _+_, _-_, _*_, _≤_, _<_}
 use mathlib.Core.Path.{_≡_, refl}
 use mathlib.Core.Bool.{Bool, true, false, cond}
 use mathlib.Core.List.{List, []}
@@ -13,7 +13,7 @@ use Rattle.model.specs.declared.Machine.{Machine}
 use Rattle.model.specs.declared.Ending.{Ending}
 use Rattle.model.specs.declared.Ending.the-variants.{Finished, Outside}
 use Rattle.model.specs.declared.Refusal.{Refusal}
-use Rattle.model.specs.declared.Refusal.the-variants.{NoWords, TooManyWords, LongWaitList, BadGateState, TooManyInstructions, ShortJournal, ShortOutput, CutImage, WrongTag, WrongLength, WrongVersion, BadFlag, BadWordCount, ShortMemory, TrailingBytes}
+use Rattle.model.proofs.Verdicts.{numbered}
 use Rattle.model.specs.Refusals.{refusalNumber}
 use Rattle.model.specs.Waits.{waitAt}
 use Rattle.model.specs.Interpreter.{Run, inside, begin, execute, stop, advance, interpret}
@@ -127,26 +127,9 @@ module _ (start : Machine) (memory : List ℕ) where
         decimal-le 2 (last .clocks) (omega (arith, clocks-small 16 first)),
       )))
 
-few-refusals : (why : Refusal) → refusalNumber why < 10 ^ 2
-few-refusals NoWords = omega arith
-few-refusals TooManyWords = omega arith
-few-refusals LongWaitList = omega arith
-few-refusals BadGateState = omega arith
-few-refusals TooManyInstructions = omega arith
-few-refusals ShortJournal = omega arith
-few-refusals ShortOutput = omega arith
-few-refusals CutImage = omega arith
-few-refusals WrongTag = omega arith
-few-refusals WrongLength = omega arith
-few-refusals WrongVersion = omega arith
-few-refusals BadFlag = omega arith
-few-refusals BadWordCount = omega arith
-few-refusals ShortMemory = omega arith
-few-refusals TrailingBytes = omega arith
-
 refused-length : (why : Refusal) → length (refusedText why) ≤ longestText
 unfolding refusedText
-refused-length why = simp length-append (omega (arith, decimal-le 1 (refusalNumber why) (few-refusals why)))
+refused-length why = simp length-append (omega (arith, decimal-le 1 (refusalNumber why) (omega (arith, numbered why .1))))
 
 -- every ledger fits the room that is asked for
 pub ledger-length : (o : Outcome) → length (ledger o) ≤ longestText

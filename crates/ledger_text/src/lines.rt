@@ -1,6 +1,7 @@
 // The parts of the text, each put into a buffer from a place on. Each answers the place after it.
 use model::Flags;
 use model::Refusal;
+use refusals::refusal_number;
 use text::put_decimal;
 use text::put_hexadecimal;
 use text::put_text;
@@ -80,33 +81,10 @@ pub fn put_ending(out: &mut [u8], at: usize, word: &[u8], count: u64, total: u64
     put_number(out, after_count, total, b'\n')
 }
 
-// Document 01's number of a refusal.
-fn number_of(why: Refusal) -> u64
-    ensures { λ r. ⌜ r ≡ refusalNumber why ⌝ }
-{
-    match why {
-        Refusal::NoWords => 1,
-        Refusal::TooManyWords => 2,
-        Refusal::LongWaitList => 3,
-        Refusal::BadGateState => 4,
-        Refusal::TooManyInstructions => 5,
-        Refusal::ShortJournal => 6,
-        Refusal::ShortOutput => 7,
-        Refusal::CutImage => 8,
-        Refusal::WrongTag => 9,
-        Refusal::WrongLength => 10,
-        Refusal::WrongVersion => 11,
-        Refusal::BadFlag => 12,
-        Refusal::BadWordCount => 13,
-        Refusal::ShortMemory => 14,
-        Refusal::TrailingBytes => 15,
-    }
-}
-
 // All that is printed for a bad image.
 pub fn put_refused(out: &mut [u8], why: Refusal) -> usize
     ensures { λ r. ⌜ Extends (now (out .entry)) 0 (refusedText why) (now (out .exit)) r ⌝ }
 {
     let after_word = put_text(out, 0, b"refused ");
-    put_number(out, after_word, number_of(why), b'\n')
+    put_number(out, after_word, refusal_number(why) as u64, b'\n')
 }

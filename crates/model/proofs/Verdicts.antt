@@ -1,11 +1,14 @@
--- A call that is carried out: nothing that is demanded fails.
+-- A call that is carried out: nothing that is demanded fails. The numbers of the refusals.
 -- Assumes nothing.
+use Prim.Native.Nat.{_≤_}
 use mathlib.Core.Path.{_≡_, refl}
 use mathlib.Core.Bool.{Bool, true, false}
+use native.Mathlib.Omega.{arith}
 use Rattle.model.specs.declared.Refusal.{Refusal}
+use Rattle.model.specs.declared.Refusal.the-variants.{NoWords, TooManyWords, LongWaitList, BadGateState, TooManyInstructions, ShortJournal, ShortOutput, CutImage, WrongTag, WrongLength, WrongVersion, BadFlag, BadWordCount, ShortMemory, TrailingBytes}
 use Rattle.model.specs.declared.Verdict.{Verdict}
 use Rattle.model.specs.declared.Verdict.the-variants.{Accepted, Refused}
-use Rattle.model.specs.Refusals.{demand, _then_}
+use Rattle.model.specs.Refusals.{refusalNumber, demand, _then_}
 
 pub demanded : (t : Bool) (why : Refusal) → demand t why ≡ Accepted → t ≡ true
 demanded true why e = refl
@@ -14,3 +17,21 @@ demanded false why e = cc
 pub both : (u v : Verdict) → (u then v) ≡ Accepted → (u ≡ Accepted) × (v ≡ Accepted)
 both Accepted v e = (refl, e)
 both (Refused why) v e = (cc, cc)
+
+-- a refusal has a number from 1 to 15
+pub numbered : (why : Refusal) → (1 ≤ refusalNumber why) × (refusalNumber why ≤ 15)
+numbered NoWords = (omega arith, omega arith)
+numbered TooManyWords = (omega arith, omega arith)
+numbered LongWaitList = (omega arith, omega arith)
+numbered BadGateState = (omega arith, omega arith)
+numbered TooManyInstructions = (omega arith, omega arith)
+numbered ShortJournal = (omega arith, omega arith)
+numbered ShortOutput = (omega arith, omega arith)
+numbered CutImage = (omega arith, omega arith)
+numbered WrongTag = (omega arith, omega arith)
+numbered WrongLength = (omega arith, omega arith)
+numbered WrongVersion = (omega arith, omega arith)
+numbered BadFlag = (omega arith, omega arith)
+numbered BadWordCount = (omega arith, omega arith)
+numbered ShortMemory = (omega arith, omega arith)
+numbered TrailingBytes = (omega arith, omega arith)

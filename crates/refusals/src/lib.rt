@@ -2,12 +2,35 @@
 use model::Refusal;
 use model::Verdict;
 ghost use mathlib.Core.Path.{_≡_};
-ghost use Rattle.model.specs.Refusals.{demand, _then_, memoryFits, waitsFit, journalFits, runVerdict, fileVerdict};
+ghost use Rattle.model.specs.Refusals.{refusalNumber, demand, _then_, memoryFits, waitsFit, journalFits, runVerdict, fileVerdict};
 
 fn wide(x: u32) -> usize
     ensures { λ r. ⌜ r ≡ x ⌝ }
 {
     x as usize
+}
+
+// Document 01's number of a refusal, 1 to 15.
+pub fn refusal_number(why: Refusal) -> u32
+    ensures { λ r. ⌜ r ≡ refusalNumber why ⌝ }
+{
+    match why {
+        Refusal::NoWords => 1,
+        Refusal::TooManyWords => 2,
+        Refusal::LongWaitList => 3,
+        Refusal::BadGateState => 4,
+        Refusal::TooManyInstructions => 5,
+        Refusal::ShortJournal => 6,
+        Refusal::ShortOutput => 7,
+        Refusal::CutImage => 8,
+        Refusal::WrongTag => 9,
+        Refusal::WrongLength => 10,
+        Refusal::WrongVersion => 11,
+        Refusal::BadFlag => 12,
+        Refusal::BadWordCount => 13,
+        Refusal::ShortMemory => 14,
+        Refusal::TrailingBytes => 15,
+    }
 }
 
 // Refused unless something holds.

@@ -11,8 +11,11 @@ slice-aggregate-put-text c = search needs
 put-text-requires : tie.Need-put-text-requires
 put-text-requires c κs = search needs
 
-number-of-requires : tie.Need-number-of-requires
-number-of-requires c κs = search needs
+refusal-number-requires : tie.Need-refusal-number-requires
+refusal-number-requires c κs = search needs
+
+cast-put-number : tie.Need-cast-put-number
+cast-put-number c = search needs
 
 put-number-requires : tie.Need-put-number-requires
 put-number-requires c κs = search needs
@@ -23,7 +26,7 @@ same-length c = search needs
 returns : tie.Need-returns
 unfolding refusedText
 returns c =
-    rw (c .before .before .before .number-of .ensures) at (start (c .before .before .before .before .before .before .before .put-text .ensures) ▸ c .before .before .put-number .ensures .whole)
+    rw (c .before .before .before .refusal-number .ensures) at (start (c .before .before .before .before .before .before .before .put-text .ensures) ▸ c .before .before .put-number .ensures .whole)
 
 pub put-refused-spec : {M : Type 1} → statement M
 put-refused-spec =
@@ -31,7 +34,8 @@ put-refused-spec =
     (tie.spec
     slice-aggregate-put-text
     put-text-requires
-    number-of-requires
+    refusal-number-requires
+    cast-put-number
     put-number-requires
     same-length
     returns)

@@ -3,10 +3,10 @@ use mathlib.Core.Path.{_≡_, refl, _∙_}
 use mathlib.Core.Path.{_≡_, refl}
 use native.Mathlib.Omega.{arith}
 use lib.ListN.{length}
-use Rattle.interpreter.proofs.JournalLaws.{undone-none, undone-more}
-use Rattle.interpreter.specs.Journals.{undone}
-use Rattle.interpreter.proofs.journal.undo.Statement.{statement}
-use Rattle.interpreter.proofs.journal.undo.Tie as tie
+use Rattle.journal.proofs.JournalLaws.{undone-none, undone-more}
+use Rattle.journal.specs.Journals.{undone}
+use Rattle.journal.proofs.undo.Statement.{statement}
+use Rattle.journal.proofs.undo.Tie as tie
 
 abbrev Inv-loop : tie.InvT-loop
 Inv-loop memory₀ journal pairs k₀ memory k =

@@ -3,7 +3,7 @@ use instruction::memory::load;
 use instruction::memory::store;
 use instruction::memory::wide;
 ghost use mathlib.Core.Path.{_≡_};
-ghost use Rattle.interpreter.specs.Journals.{undone};
+ghost use Rattle.journal.specs.Journals.{undone};
 
 // Puts the former words back, the last store first.
 pub fn undo(memory: &mut [u32], journal: &[u32], pairs: u32)

@@ -17,7 +17,7 @@ use Rattle.model.specs.Interpreter.{Run, opB, regsB, aluOut, inside, isStored, 
 use Rattle.model.specs.Journal.{Pair, storedBy, journalPairs, journalWords, overlay}
 use Rattle.model.proofs.Runs.{words-length, words-append}
 use Rattle.step.specs.Steps.{noted}
-use Rattle.interpreter.specs.Journals.{undone}
+use Rattle.journal.specs.Journals.{undone}
 
 -- ---- filling
 
