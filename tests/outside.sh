@@ -1,6 +1,6 @@
 #!/usr/bin/env bash
 # The tests outside Rattle: the reference emulator's own; whether the generated files are those of their seeds and sources;
-# the proved calls against the reference emulator on generated cases; the C, Rust and Python bindings.
+# the ledger program and the proved calls against the reference emulator on generated cases; the C, Rust and Python bindings.
 set -euo pipefail
 cd "$(dirname "$0")/.."
 . tests/tools.sh
@@ -11,12 +11,15 @@ cargo test --quiet --release --offline --manifest-path reference/Cargo.toml
 echo "outside: generated files are those of their seeds and sources"
 bash tests/generate.sh --check
 
+echo "outside: the ledger program"
+bash tests/ledger.sh
+
 echo "outside: the static library"
 rt staticlib host
 
 echo "outside: the proved calls against the reference emulator"
 cargo build --quiet --release --offline --manifest-path harness/Cargo.toml --features library --bin differential
-harness/target/release/differential --programs 10000 --seed 1
+harness/target/release/differential --programs 10000 --images 100000 --seed 1
 
 echo "outside: the bindings"
 bash tests/bindings.sh

@@ -5,6 +5,7 @@ use mathlib.Core.Path.{_≡_}
 use mathlib.Core.Bool.{true, false}
 use mathlib.Core.List.{List, [], _∷_}
 use lib.ListN.{length}
+use borrow.Author.Tests.{eq-eqb}
 use Rattle.model.specs.declared.Machine.{Machine}
 use Rattle.model.specs.declared.GateState.{GateState}
 use Rattle.interpreter.specs.declared.RunResult.{RunResult}
@@ -16,15 +17,16 @@ use Rattle.gate_machine.specs.Outcome.{gateOutcome}
 use Rattle.image.specs.declared.ReadResult.{ReadResult}
 use Rattle.image.specs.declared.WriteResult.{WriteResult}
 use Rattle.image.specs.Calls.{Reads, Writes, readCount}
-use Rattle.host.specs.Layout.{machineIn, machineWords, machineFits, stateIn, stateWords, stateFits}
-use Rattle.host.specs.Codes.{codeNumber, misfit, runCode, fileCode, gateCode, readCode, Ends, WriteEnds}
+use Rattle.host_words.specs.Layout.{machineIn, machineWords, machineFits, stateIn, stateWords, stateFits}
+use Rattle.host_words.specs.Codes.{codeNumber, misfit, codeIf, runCode, fileCode, gateCode, readCode, Ends, WriteEnds}
+use Rattle.host_words.proofs.FitLaws.{machine-lengths}
 use Rattle.host.specs.Calls.{ran, runWords, RunCall, filed, fileWords, filePlaces, FileCall, clocked, GateCall, readBack, wordsRead, ReadCall, written, bytesWritten, WriteCall}
 
 module _ (memory waits machine : List ℕ) (count : ℕ) (result : List ℕ) where
-  pub run-misfit : machineFits machine (length result) 2 ≡ false → RunCall memory waits machine count result memory machine result (codeNumber misfit)
+  pub run-misfit : machineFits (length machine) (length result) 2 ≡ false → RunCall memory waits machine count result memory machine result (codeNumber misfit)
   run-misfit f = record { returned = rw f; words = rw f; registers = rw f; numbers = rw f }
 
-  module _ (f : machineFits machine (length result) 2 ≡ true) (start : Machine) (s : start ≡ machineIn machine) (r : RunResult) (memory′ : List ℕ) (runs : Runs memory waits start count memory′ r) where
+  module _ (f : machineFits (length machine) (length result) 2 ≡ true) (start : Machine) (s : start ≡ machineIn machine) (r : RunResult) (memory′ : List ℕ) (runs : Runs memory waits start count memory′ r) where
     same : r ≡ ran memory waits machine count
     unfolding ran
     same = rw s at (runs .result)
@@ -33,16 +35,16 @@ module _ (memory waits machine : List ℕ) (count : ℕ) (result : List ℕ) whe
     unfolding runWords
     left = rw s at (runs .words)
 
-    pub run-fits : (machine′ result′ : List ℕ) (code : ℕ) → Ends (runCode (r .answer)) (machineWords (r .machine)) (r .ran ∷ r .clocks ∷ []) machine result machine′ result′ code
+    pub run-fits : (machine′ result′ : List ℕ) (code : ℕ) → Ends (codeIf (machineFits (length machine) (length result) 2) (runCode (r .answer))) (machineWords (r .machine)) (r .ran ∷ r .clocks ∷ []) machine result machine′ result′ code
         → RunCall memory waits machine count result memory′ machine′ result′ code
     run-fits machine′ result′ code g =
-        record { returned = rw (f, ← same) (g .returned); words = rw f left; registers = rw (f, ← same) (g .registers); numbers = rw (f, ← same) (g .numbers) }
+        record { returned = rw (← same) (g .returned); words = rw f left; registers = rw (← same) (g .registers); numbers = rw (← same) (g .numbers) }
 
 module _ (memory journal machine : List ℕ) (count : ℕ) (result : List ℕ) where
-  pub file-misfit : machineFits machine (length result) 2 ≡ false → FileCall memory journal machine count result memory journal machine result (codeNumber misfit)
+  pub file-misfit : machineFits (length machine) (length result) 2 ≡ false → FileCall memory journal machine count result memory journal machine result (codeNumber misfit)
   file-misfit f = record { returned = rw f; words = rw f; places = rw f; registers = rw f; numbers = rw f }
 
-  module _ (f : machineFits machine (length result) 2 ≡ true) (start : Machine) (s : start ≡ machineIn machine) (r : FileResult) (memory′ journal′ : List ℕ)
+  module _ (f : machineFits (length machine) (length result) 2 ≡ true) (start : Machine) (s : start ≡ machineIn machine) (r : FileResult) (memory′ journal′ : List ℕ)
       (runs : FileRuns memory journal start count memory′ journal′ r) where
     file-same : r ≡ filed memory journal machine count
     unfolding filed
@@ -56,10 +58,10 @@ module _ (memory journal machine : List ℕ) (count : ℕ) (result : List ℕ) w
     unfolding filePlaces
     file-places = rw s at (runs .places)
 
-    pub file-fits : (machine′ result′ : List ℕ) (code : ℕ) → Ends (fileCode (r .answer)) (machineWords (r .machine)) (r .ran ∷ r .pairs ∷ []) machine result machine′ result′ code
+    pub file-fits : (machine′ result′ : List ℕ) (code : ℕ) → Ends (codeIf (machineFits (length machine) (length result) 2) (fileCode (r .answer))) (machineWords (r .machine)) (r .ran ∷ r .pairs ∷ []) machine result machine′ result′ code
         → FileCall memory journal machine count result memory′ journal′ machine′ result′ code
     file-fits machine′ result′ code g =
-        record { returned = rw (f, ← file-same) (g .returned); words = rw f file-words; places = rw f file-places; registers = rw (f, ← file-same) (g .registers); numbers = rw (f, ← file-same) (g .numbers) }
+        record { returned = rw (← file-same) (g .returned); words = rw f file-words; places = rw f file-places; registers = rw (← file-same) (g .registers); numbers = rw (← file-same) (g .numbers) }
 
 module _ (memory waits state : List ℕ) (clocks : ℕ) (result : List ℕ) where
   pub gate-misfit : stateFits state (length result) ≡ false → GateCall memory waits state clocks result memory state result (codeNumber misfit)
@@ -75,20 +77,20 @@ module _ (memory waits state : List ℕ) (clocks : ℕ) (result : List ℕ) wher
     unfolding clocked
     gate-words = rw s at m
 
-    pub gate-fits : (state′ result′ : List ℕ) (code : ℕ) → Ends (gateCode (r .answer)) (stateWords (r .state)) (r .finished ∷ []) state result state′ result′ code
+    pub gate-fits : (state′ result′ : List ℕ) (code : ℕ) → Ends (codeIf (stateFits state (length result)) (gateCode (r .answer))) (stateWords (r .state)) (r .finished ∷ []) state result state′ result′ code
         → GateCall memory waits state clocks result memory′ state′ result′ code
     gate-fits state′ result′ code g =
-        record { returned = rw (f, ← gate-same) (g .returned); words = rw f gate-words; registers = rw (f, ← gate-same) (g .registers); numbers = rw (f, ← gate-same) (g .numbers) }
+        record { returned = rw (← gate-same) (g .returned); words = rw f gate-words; registers = rw (← gate-same) (g .registers); numbers = rw (← gate-same) (g .numbers) }
 
 -- what one clock returns, as a gate run returns it
 abbrev pub asRun : Clocked → GateResult
 asRun r = record { answer = r .outcome .answer; state = r .state; finished = r .outcome .finished }
 
 module _ (bytes memory machine result : List ℕ) where
-  pub read-misfit : machineFits machine (length result) 1 ≡ false → ReadCall bytes memory machine result memory machine result (codeNumber misfit)
+  pub read-misfit : machineFits (length machine) (length result) 1 ≡ false → ReadCall bytes memory machine result memory machine result (codeNumber misfit)
   read-misfit f = record { returned = rw f; words = rw f; registers = rw f; numbers = rw f }
 
-  module _ (f : machineFits machine (length result) 1 ≡ true) (r : ReadResult) (memory′ : List ℕ) (reads : Reads bytes memory memory′ r) where
+  module _ (f : machineFits (length machine) (length result) 1 ≡ true) (r : ReadResult) (memory′ : List ℕ) (reads : Reads bytes memory memory′ r) where
     read-same : r ≡ readBack bytes memory
     unfolding readBack
     read-same = reads .result
@@ -97,16 +99,16 @@ module _ (bytes memory machine result : List ℕ) where
     unfolding wordsRead
     read-words = reads .words
 
-    pub read-fits : (machine′ result′ : List ℕ) (code : ℕ) → Ends (readCode (r .answer)) (machineWords (r .machine)) (readCount (r .answer) ∷ []) machine result machine′ result′ code
+    pub read-fits : (machine′ result′ : List ℕ) (code : ℕ) → Ends (codeIf (machineFits (length machine) (length result) 1) (readCode (r .answer))) (machineWords (r .machine)) (readCount (r .answer) ∷ []) machine result machine′ result′ code
         → ReadCall bytes memory machine result memory′ machine′ result′ code
     read-fits machine′ result′ code g =
-        record { returned = rw (f, ← read-same) (g .returned); words = rw f read-words; registers = rw (f, ← read-same) (g .registers); numbers = rw (f, ← read-same) (g .numbers) }
+        record { returned = rw (← read-same) (g .returned); words = rw f read-words; registers = rw (← read-same) (g .registers); numbers = rw (← read-same) (g .numbers) }
 
 module _ (memory machine out result : List ℕ) where
-  pub write-misfit : machineFits machine (length result) 1 ≡ false → WriteCall memory machine out result out result (codeNumber misfit)
+  pub write-misfit : machineFits (length machine) (length result) 1 ≡ false → WriteCall memory machine out result out result (codeNumber misfit)
   write-misfit f = record { returned = rw f; bytes = rw f; numbers = rw f }
 
-  module _ (f : machineFits machine (length result) 1 ≡ true) (start : Machine) (s : start ≡ machineIn machine) (r : WriteResult) (out′ : List ℕ)
+  module _ (f : machineFits (length machine) (length result) 1 ≡ true) (start : Machine) (s : start ≡ machineIn machine) (r : WriteResult) (out′ : List ℕ)
       (writes : Writes memory start out out′ r) where
     write-same : r ≡ written memory machine out
     unfolding written
@@ -118,4 +120,5 @@ module _ (memory machine out result : List ℕ) where
 
     pub write-fits : (result′ : List ℕ) (code : ℕ) → WriteEnds r result result′ code → WriteCall memory machine out result out′ result′ code
     write-fits result′ code g =
-        record { returned = rw (f, ← write-same) (g .returned); bytes = rw f write-bytes; numbers = rw (f, ← write-same) (g .numbers) }
+        let h = eq-eqb (length result) 1 (machine-lengths (length machine) (length result) 1 f .1) in
+        record { returned = rw (f, ← write-same) (rw h at (g .returned)); bytes = rw f write-bytes; numbers = rw (f, ← write-same) (rw h at (g .numbers)) }

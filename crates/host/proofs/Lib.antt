@@ -1,5 +1,2 @@
-mod LayoutLaws
-mod LentLaws
-mod CodeLaws
-mod FitLaws
+mod ReadingLaws
 mod CallLaws

@@ -1,18 +1,17 @@
-// The exported calls, for C, Rust and Python: numbers and slices alone. specs/Layout.antt has the layout of what is lent, specs/Codes.antt
-// the codes that are returned, and specs/Calls.antt what each call leaves.
-mod codes;
-mod layout;
-mod lent;
+// The exported calls, for C, Rust and Python: numbers and slices alone. The crate host_words has the layout of what is lent and the
+// codes that are returned; specs/Calls.antt says what each call leaves.
+mod reading;
 
-use codes::MISFIT;
-use layout::machine_in;
-use layout::state_fits;
-use layout::state_in;
-use lent::end_file_run;
-use lent::end_gate_run;
-use lent::end_read;
-use lent::end_run;
-use lent::end_write;
+use host_words::MISFIT;
+use host_words::end_file_run;
+use host_words::end_gate_run;
+use host_words::end_read;
+use host_words::end_run;
+use host_words::end_write;
+use host_words::machine_fits;
+use host_words::state_fits;
+use reading::machine_in;
+use reading::state_in;
 ghost use Rattle.host.specs.Calls.{RunCall, FileCall, GateCall, ReadCall, WriteCall};
 
 // A run of the interpreter. result: instructions that ran, clock total.
@@ -26,8 +25,7 @@ pub extern "C" fn fm8502_run(
 ) -> u32
     ensures { λ r. ⌜ RunCall (now (memory .entry)) (now (waits .entry)) (now (machine .entry)) count (now (result .entry)) (now (memory .exit)) (now (machine .exit)) (now (result .exit)) r ⌝ }
 {
-    let fits = (machine.len() == 12) & (result.len() == 2);
-    if !fits {
+    if !machine_fits(machine.len(), result.len(), 2) {
         return MISFIT;
     }
     let r = interpreter::run(&mut *memory, waits, machine_in(&machine[..]), count);
@@ -45,8 +43,7 @@ pub extern "C" fn fm8502_file_run(
 ) -> u32
     ensures { λ r. ⌜ FileCall (now (memory .entry)) (now (journal .entry)) (now (machine .entry)) count (now (result .entry)) (now (memory .exit)) (now (journal .exit)) (now (machine .exit)) (now (result .exit)) r ⌝ }
 {
-    let fits = (machine.len() == 12) & (result.len() == 2);
-    if !fits {
+    if !machine_fits(machine.len(), result.len(), 2) {
         return MISFIT;
     }
     let r = interpreter::file_run(&mut *memory, &mut *journal, machine_in(&machine[..]), count);
@@ -103,8 +100,7 @@ pub extern "C" fn fm8502_image_read(
 ) -> u32
     ensures { λ r. ⌜ ReadCall (now (bytes .entry)) (now (memory .entry)) (now (machine .entry)) (now (result .entry)) (now (memory .exit)) (now (machine .exit)) (now (result .exit)) r ⌝ }
 {
-    let fits = (machine.len() == 12) & (result.len() == 1);
-    if !fits {
+    if !machine_fits(machine.len(), result.len(), 1) {
         return MISFIT;
     }
     let r = image_reader::read(bytes, &mut *memory);
@@ -121,8 +117,7 @@ pub extern "C" fn fm8502_image_write(
 ) -> u32
     ensures { λ r. ⌜ WriteCall (now (memory .entry)) (now (machine .entry)) (now (out .entry)) (now (result .entry)) (now (out .exit)) (now (result .exit)) r ⌝ }
 {
-    let fits = (machine.len() == 12) & (result.len() == 1);
-    if !fits {
+    if !machine_fits(machine.len(), result.len(), 1) {
         return MISFIT;
     }
     let r = image_writer::write(memory, machine_in(machine), &mut *out);

@@ -1,6 +1,8 @@
+-- `host::fm8502_clock` meets its contract.
+-- Assumes nothing.
 use mathlib.Core.Path.{ap}
 use borrow.Author.Needs.{needs}
-use Rattle.host.proofs.FitLaws.{refuted, granted, state-readable, state-lengths}
+use Rattle.host_words.proofs.FitLaws.{refuted, granted, state-readable}
 use Rattle.host.proofs.CallLaws.{gate-misfit, gate-fits, asRun}
 use Rattle.host.proofs.fm8502_clock.Statement.{statement}
 use Rattle.host.proofs.fm8502_clock.Tie as tie
@@ -21,7 +23,7 @@ clock-requires : tie.Need-clock-requires
 clock-requires c κs = search needs
 
 end-gate-run-requires : tie.Need-end-gate-run-requires
-end-gate-run-requires c κs = state-lengths _ _ (granted (c .before .before .before .before .before .before .before .before .before .before .before .state-fits .ensures) (c .before .before .before .before .before .before .before .before .before .before .if1 .left))
+end-gate-run-requires c κs = search needs
 
 same-length-2 : tie.Need-same-length-2
 same-length-2 c = search needs

@@ -1,22 +1,25 @@
-use mathlib.Core.Path.{refl}
-use lib.ListN.{length}
+-- `host::fm8502_file_run` meets its contract.
+-- Assumes nothing.
 use borrow.Author.Needs.{needs}
-use Rattle.host.proofs.FitLaws.{refuted, granted, machine-readable, machine-lengths}
+use Rattle.host_words.proofs.FitLaws.{refuted, granted, machine-readable}
 use Rattle.host.proofs.CallLaws.{file-misfit, file-fits}
 use Rattle.host.proofs.fm8502_file_run.Statement.{statement}
 use Rattle.host.proofs.fm8502_file_run.Tie as tie
 
+machine-fits-requires : tie.Need-machine-fits-requires
+machine-fits-requires c κs = search needs
+
 returns : tie.Need-returns
-returns c = file-misfit _ _ _ _ _ (refuted refl (c .if1 .taken))
+returns c = file-misfit _ _ _ _ _ (refuted (c .before .machine-fits .ensures) (c .if1 .taken))
 
 machine-in-requires : tie.Need-machine-in-requires
-machine-in-requires c κs = machine-readable (c .before .before .before .before .before .before .before .before .args .machine .now) (length (c .before .before .before .before .before .before .before .before .args .result .now)) 2 (granted refl (c .before .before .before .if1 .left))
+machine-in-requires c κs = machine-readable _ _ _ (granted (c .before .before .before .before .machine-fits .ensures) (c .before .before .before .if1 .left))
 
 file-run-requires : tie.Need-file-run-requires
 file-run-requires c κs = search needs
 
 end-file-run-requires : tie.Need-end-file-run-requires
-end-file-run-requires c κs = machine-lengths (c .before .before .before .before .before .before .before .before .before .before .before .before .before .before .before .before .args .machine .now) (length (c .before .before .before .before .before .before .before .before .before .before .before .before .before .before .before .before .args .result .now)) 2 (granted refl (c .before .before .before .before .before .before .before .before .before .before .before .if1 .left))
+end-file-run-requires c κs = search needs
 
 same-length : tie.Need-same-length
 same-length c = search needs
@@ -31,12 +34,13 @@ same-length-4 : tie.Need-same-length-4
 same-length-4 c = search needs
 
 returns-2 : tie.Need-returns-2
-returns-2 c = file-fits _ _ _ _ _ (granted refl (c .before .before .before .before .before .before .before .before .before .before .before .before .before .before .before .before .if1 .left)) _ (c .before .before .before .before .before .before .before .before .before .before .before .before .machine-in .ensures) _ _ _ (c .before .before .before .before .before .before .before .before .before .before .before .file-run .ensures) _ _ _ (c .before .before .before .before .end-file-run .ensures)
+returns-2 c = file-fits _ _ _ _ _ (granted (c .before .before .before .before .before .before .before .before .before .before .before .before .before .before .before .before .before .machine-fits .ensures) (c .before .before .before .before .before .before .before .before .before .before .before .before .before .before .before .before .if1 .left)) _ (c .before .before .before .before .before .before .before .before .before .before .before .before .machine-in .ensures) _ _ _ (c .before .before .before .before .before .before .before .before .before .before .before .file-run .ensures) _ _ _ (c .before .before .before .before .end-file-run .ensures)
 
 pub fm8502-file-run-spec : {M : Type 1} → statement M
 fm8502-file-run-spec =
     tie.close
     (tie.spec
+    machine-fits-requires
     returns
     machine-in-requires
     file-run-requires

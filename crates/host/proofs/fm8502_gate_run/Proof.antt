@@ -1,5 +1,7 @@
+-- `host::fm8502_gate_run` meets its contract.
+-- Assumes nothing.
 use borrow.Author.Needs.{needs}
-use Rattle.host.proofs.FitLaws.{refuted, granted, state-readable, state-lengths}
+use Rattle.host_words.proofs.FitLaws.{refuted, granted, state-readable}
 use Rattle.host.proofs.CallLaws.{gate-misfit, gate-fits}
 use Rattle.host.proofs.fm8502_gate_run.Statement.{statement}
 use Rattle.host.proofs.fm8502_gate_run.Tie as tie
@@ -20,7 +22,7 @@ run-requires : tie.Need-run-requires
 run-requires c κs = search needs
 
 end-gate-run-requires : tie.Need-end-gate-run-requires
-end-gate-run-requires c κs = state-lengths _ _ (granted (c .before .before .before .before .before .before .before .before .before .before .state-fits .ensures) (c .before .before .before .before .before .before .before .before .before .if1 .left))
+end-gate-run-requires c κs = search needs
 
 same-length-2 : tie.Need-same-length-2
 same-length-2 c = search needs

@@ -1,0 +1,4 @@
+mod LayoutLaws
+mod LentLaws
+mod CodeLaws
+pub mod FitLaws

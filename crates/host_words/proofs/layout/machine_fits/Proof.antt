@@ -1,0 +1,13 @@
+-- `host_words::layout::machine_fits` meets its contract.
+-- Assumes nothing.
+use mathlib.Core.Path.{refl}
+use Rattle.host_words.specs.Layout.{machineFits}
+use Rattle.host_words.proofs.layout.machine_fits.Statement.{statement}
+use Rattle.host_words.proofs.layout.machine_fits.Tie as tie
+
+returns : tie.Need-returns
+unfolding machineFits
+returns c = refl
+
+pub machine-fits-spec : {M : Type 1} → statement M
+machine-fits-spec = tie.close (tie.spec returns)

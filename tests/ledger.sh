@@ -1,0 +1,37 @@
+#!/usr/bin/env bash
+# The ledger program on whole inputs, against the reference emulator's ledger and the paper's words.
+# Both are built already: rt check ledger, and tests/generate.sh builds the reference's programs.
+set -euo pipefail
+cd "$(dirname "$0")/.."
+
+ledger=target/bin/ledger
+make_image=reference/target/release/make_image
+work=$(mktemp -d)
+trap 'rm -rf "$work"' EXIT
+
+# NAME EXPECTED: the input in $work/input prints EXPECTED, and the same as the reference's ledger
+prints() {
+    "$ledger" <"$work/input" >"$work/text"
+    reference/target/release/ledger <"$work/input" | cmp -s - "$work/text" || { echo "ledger: $1: not what the reference prints" >&2; exit 1; }
+    [ "$(tail -n 1 "$work/text")" = "$2" ] || { echo "ledger: $1: ends with $(tail -n 1 "$work/text")" >&2; exit 1; }
+}
+
+"$make_image" 00010021 00050421 >"$work/input"
+prints "the paper's example" "outside 2 18"
+: >"$work/input"
+prints "no input" "refused 8"
+"$make_image" -m 4096 00010021 >"$work/input"
+prints "the largest memory" "finished 16 144"
+head -c 100000 /dev/zero >>"$work/input"
+prints "an input longer than is read" "refused 15"
+"$make_image" -m 4097 00010021 >"$work/input"
+prints "a larger memory" "refused 14"
+"$make_image" -r 0=FFFFFFFF 00010021 >"$work/input"
+prints "r0 at the last address" "outside 0 0"
+# the word at 0 copies the word at r1 over the next address, r2, which then runs
+"$make_image" -r 1=3 -r 2=1 00000149 00000000 00010021 00010061 >"$work/input"
+prints "a program that stores over itself" "outside 4 38"
+for name in stacking outside; do
+    cp "examples/$name.image" "$work/input"
+    prints "examples/$name.image" "$(tail -n 1 "examples/$name.ledger")"
+done
