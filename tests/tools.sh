@@ -1,6 +1,6 @@
 # shellcheck shell=bash
 # Finds the commands that the scripts need, or installs them: rt (the Rattle toolchain), cargo, cc, python3.
-PATH=$PATH:/opt/rattle/bin:$HOME/.cargo/bin
+PATH=$PATH:/opt/rattle/bin:${HOME:-/root}/.cargo/bin
 export PATH
 
 if ! command -v rt >/dev/null; then
