@@ -1,5 +1,4 @@
 -- Demand 3 for the two public calls, from the model's agreement and the calls' contracts.
--- Assumes nothing.
 use Prim.Native.Nat.{ℕ}
 use mathlib.Core.Path.{_≡_, refl, sym, ap, _∙_}
 use mathlib.Core.List.{List}
@@ -20,8 +19,8 @@ use Rattle.interpreter.specs.declared.RunAnswer.{RunAnswer}
 use Rattle.interpreter.specs.declared.RunResult.{RunResult}
 use Rattle.interpreter.specs.Calls.{runAnswer, runResult, runMemory}
 use Rattle.interpreter.specs.Calls as Interpreter
-use Rattle.gate_machine.proofs.Valid.{resting, valid-verdict}
-use Rattle.gate_machine.proofs.Follows.{series-as-one}
+use Rattle.model.proofs.Valid.{resting, valid-verdict}
+use Rattle.agreement.proofs.Follows.{series-as-one}
 use Rattle.agreement.specs.TwoRuns.{Fresh, InStep, TwoRuns, SameVerdict}
 
 -- a verdict that all else passed

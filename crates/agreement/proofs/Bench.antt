@@ -1,5 +1,4 @@
 -- The starred bench words of the model hold of the public calls: one law over a table of cases.
--- Assumes nothing.
 use Prim.Native.Nat.{ℕ}
 use mathlib.Core.Path.{_≡_, refl, ap, _∙_}
 use mathlib.Core.Bool.{Bool, true, false, _&&_}
@@ -14,7 +13,7 @@ use Rattle.model.specs.Bench.{Case, cases, startOf, hasAll, passes, allPass}
 use Rattle.model.proofs.Starred.{starred}
 use Rattle.interpreter.specs.declared.RunResult.{RunResult}
 use Rattle.interpreter.specs.Calls as Interpreter
-use Rattle.gate_machine.proofs.Follows.{carried-out}
+use Rattle.agreement.proofs.Follows.{carried-out}
 use Rattle.agreement.specs.Starred.{Holds, AllHold, StarredCases}
 use Rattle.agreement.proofs.Agreed.{accepted, same-verdict, returned, left-in}
 

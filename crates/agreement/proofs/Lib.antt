@@ -1,2 +1,3 @@
+pub mod Follows
 pub mod Agreed
 pub mod Bench

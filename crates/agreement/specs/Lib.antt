@@ -1,2 +1,3 @@
+pub mod Series
 pub mod TwoRuns
 pub mod Starred

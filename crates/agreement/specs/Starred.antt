@@ -1,5 +1,4 @@
--- The starred bench words of document 01 hold of the two public calls, through their contracts.
--- Assumes nothing.
+-- The starred bench words hold of the two public calls, through their contracts. Document 01, "Bench words".
 use Prim.Native.Nat.{ℕ}
 use mathlib.Core.List.{List, [], _∷_}
 use lib.Dec.{T}

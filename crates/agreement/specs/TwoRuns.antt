@@ -1,5 +1,4 @@
--- Demand 3 for the public calls `interpreter::run` and `gate_machine::run`, in the terms of what they return by their contracts (document 01, "Clocks").
--- Assumes nothing.
+-- Demand 3 for the public calls `interpreter::run` and `gate_machine::run`, in the terms of what they return by their contracts. Document 01, "Clocks".
 use Prim.Native.Nat.{ℕ, _≤_}
 use mathlib.Core.Path.{_≡_}
 use mathlib.Core.Logic.{_↔_}
@@ -13,7 +12,7 @@ use Rattle.interpreter.specs.declared.RunAnswer.{RunAnswer}
 use Rattle.interpreter.specs.declared.RunResult.{RunResult}
 use Rattle.interpreter.specs.Calls.{runNumber}
 use Rattle.interpreter.specs.Calls as Interpreter
-use Rattle.gate_machine.specs.Series.{Series}
+use Rattle.agreement.specs.Series.{Series}
 
 -- a start: row 0, list position 0, no access begun, no clocks left; registers, flags and latches are any
 pub record Fresh (s : GateState) : Type 0 where

@@ -1,4 +1,4 @@
--- What the arithmetic unit answers, by operation, at every width of k + 1 bits. The machine's is `aluOf`, at 32 bits.
+-- What the arithmetic unit answers, by operation, at every width of k + 1 bits; the machine's is `aluOf`, at 32 bits. Document 01, "Machine and instruction word", move bit 0.
 use Prim.Native.Nat.{ℕ, suc, _+_, _-_, _*_, _/_, _%_, _^_}
 use mathlib.Core.Bool.{Bool, true, false}
 use mathlib.Core.List.{List, [], _∷_}

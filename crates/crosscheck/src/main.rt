@@ -6,50 +6,29 @@
 //   3 image: room in words, L, then L bytes, padded to a whole word
 // A wait takes a word; flags are one number, C 8, V 4, N 2, Z 1.
 mod input;
-mod line;
 mod loading;
+mod print;
 mod program;
-mod results;
 mod state;
 
-use input::forward;
-use input::word_at;
-ghost use mathlib.Core.Path.{_≡_};
-ghost use lib.ListN.{length};
+use input::next_word;
 
-const MOST_INPUT: usize = 524_288;
+const MOST_CASES: u32 = 131_072;
 
-// Room for the whole input. The promise of its length is what lending it takes.
-fn input_room() -> [u8; MOST_INPUT]
-    ensures { λ r. ⌜ 524288 ≡ length r ⌝ }
-{
-    [0; MOST_INPUT]
-}
-
-// The place after the case. A kind that is not known ends the input.
-fn run_case(input: &[u8], at: usize, out: &mut [u8]) -> usize {
-    let body = forward(at, 1);
-    match word_at(input, at) {
-        1 => program::program_case(input, body, out),
-        2 => state::state_case(input, body, out),
-        3 => loading::image_case(input, body, out),
-        _ => input.len(),
+// Whether there was a case. A kind that is not known ends the input.
+fn run_case() -> bool {
+    match next_word() {
+        1 => program::program_case(),
+        2 => state::state_case(),
+        3 => loading::image_case(),
+        _ => return false,
     }
-}
-
-// A case has at least one word, so there are no more cases than words.
-fn run_cases(input: &[u8], out: &mut [u8]) {
-    let mut at = 0;
-    let mut left = input.len() / 4;
-    while 0 < left && word_at(input, at) != 0 {
-        at = run_case(input, at, out);
-        left -= 1;
-    }
+    true
 }
 
 fn main() {
-    let mut input = input_room();
-    let mut line = io::large_buffer();
-    let size = io::read_full(0, &mut input);
-    run_cases(&input[..size], &mut line);
+    let mut left = MOST_CASES;
+    while 0 < left && run_case() {
+        left -= 1;
+    }
 }

@@ -1,19 +1,24 @@
 // A program: the interpreter's run, gate runs about its clock total, the file run, and the image of its start.
-use super::input::MACHINE_WORDS;
-use super::input::MOST_WAITS;
-use super::input::MOST_WORDS;
-use super::input::fill_waits;
-use super::input::fill_words;
-use super::input::forward;
-use super::input::list_at;
-use super::input::machine_at;
-use super::input::number_at;
-use super::line::write_refused;
-use super::results::write_file;
-use super::results::write_gate;
-use super::results::write_run;
-use super::results::write_size;
+// Each call has its own copy of the memory.
+use super::input::List;
+use super::input::MOST_LIST;
+use super::input::front_waits;
+use super::input::front_words;
+use super::input::least;
+use super::input::next_list;
+use super::input::next_machine;
+use super::input::next_number;
+use super::input::wide;
+use super::print::print;
+use super::print::print_counted;
+use super::print::print_memory;
+use super::print::print_number;
+use super::print::print_refused;
+use super::print::print_words;
+use super::state::run_gates;
 use image::WriteResult;
+use interpreter::FileAnswer;
+use interpreter::RunAnswer;
 use model::GateState;
 use model::Machine;
 
@@ -22,22 +27,31 @@ const MOST_COUNT: usize = 64;
 const MOST_PLACES: usize = 2 * MOST_COUNT;
 
 // Room for the image of the longest memory.
-const MOST_IMAGE: usize = 59 + 4 * MOST_WORDS;
+const MOST_IMAGE: usize = 59 + 4 * MOST_LIST;
 
-// Where memory and waits stand, and what to run. Each call has its copy of the memory filled anew.
-struct Program {
-    memory_at: usize,
-    waits_at: usize,
-    start: Machine,
-    count: u32,
+fn print_run_answer(answer: RunAnswer) {
+    match answer {
+        RunAnswer::Finished => print(b"run finished"),
+        RunAnswer::Outside => print(b"run outside"),
+        RunAnswer::Refused(why) => print_refused(b"run", why),
+    }
 }
 
-// Answers the interpreter's clock total.
-fn run_line(input: &[u8], p: Program, memory: &mut [u32], waits: &[u16], out: &mut [u8]) -> u64 {
-    fill_words(input, p.memory_at, memory);
-    let start = p.start;
-    let result = interpreter::run(memory, waits, start, p.count);
-    write_run(out, result, memory);
+// run ANSWER ran clocks cvnz r0..r7 m0..; answers the clocks.
+fn run_line(memory: List, entries: List, start: Machine, count: u32) -> u64 {
+    let mut words = memory.words;
+    let waits = entries.waits;
+    let result = interpreter::run(
+        front_words(&mut words, memory.count),
+        front_waits(&waits, entries.count),
+        start,
+        count,
+    );
+    let answer = result.answer;
+    let machine = result.machine;
+    print_run_answer(answer);
+    print_counted(result.ran as u64, result.clocks, machine);
+    print_memory(words, memory.count);
     result.clocks
 }
 
@@ -60,105 +74,98 @@ fn between(machine: Machine) -> GateState {
     }
 }
 
-fn gate_line(
-    input: &[u8],
-    p: Program,
-    memory: &mut [u32],
-    waits: &[u16],
-    clocks: u64,
-    out: &mut [u8],
-) {
-    fill_words(input, p.memory_at, memory);
-    let start = p.start;
-    let result = gate_machine::run(memory, waits, between(start), clocks);
-    write_gate(out, result, memory);
-}
-
-fn gate_line_before(
-    input: &[u8],
-    p: Program,
-    memory: &mut [u32],
-    waits: &[u16],
-    total: u64,
-    out: &mut [u8],
-) {
-    if total == 0 {
-        return;
-    }
-    gate_line(input, p, memory, waits, total - 1, out);
+// gate finished row cvnz r0..r7 m0..
+fn gate_line(memory: List, waits: List, start: GateState, clocks: u64) {
+    let run = run_gates(memory, waits, start, clocks);
+    let result = run.result;
+    let state = result.state;
+    let regs = state.regs;
+    let flags = state.flags;
+    let words = run.words;
+    print(b"gate");
+    print_counted(result.finished, state.row as u64, Machine { regs, flags });
+    print_memory(words, memory.count);
 }
 
 // Gate runs of one clock less than the total, of the total, and of one more.
-fn gate_lines(
-    input: &[u8],
-    p: Program,
-    memory: &mut [u32],
-    waits: &[u16],
-    total: u64,
-    out: &mut [u8],
-) {
-    let after = std::num::wrapping_add_u64(total, 1);
-    gate_line_before(input, p, memory, waits, total, out);
-    gate_line(input, p, memory, waits, total, out);
-    gate_line(input, p, memory, waits, after, out);
+fn gate_lines(memory: List, waits: List, start: GateState, total: u64) {
+    if 0 < total {
+        gate_line(memory, waits, start, total - 1);
+    }
+    gate_line(memory, waits, start, total);
+    gate_line(memory, waits, start, std::num::wrapping_add_u64(total, 1));
 }
 
-fn file_line(input: &[u8], p: Program, memory: &mut [u32], journal: &mut [u32], out: &mut [u8]) {
-    fill_words(input, p.memory_at, memory);
-    let start = p.start;
-    let result = interpreter::file_run(memory, journal, start, p.count);
-    write_file(out, result, journal, memory);
-}
-
-fn image_line(input: &[u8], p: Program, memory: &mut [u32], out: &mut [u8]) {
-    let mut bytes = [0u8; MOST_IMAGE];
-    fill_words(input, p.memory_at, memory);
-    let start = p.start;
-    match image_writer::write(memory, start, &mut bytes) {
-        WriteResult::Written(size) => write_size(out, size, &bytes),
-        WriteResult::Refused(why) => write_refused(out, b"image", why),
+fn print_file_answer(answer: FileAnswer) {
+    match answer {
+        FileAnswer::Finished => print(b"file finished"),
+        FileAnswer::Undone => print(b"file undone"),
+        FileAnswer::Refused(why) => print_refused(b"file", why),
     }
 }
 
-fn run_program(
-    input: &[u8],
-    p: Program,
-    memory: &mut [u32],
-    waits: &mut [u16],
-    journal: &mut [u32],
-    out: &mut [u8],
-) {
-    fill_waits(input, p.waits_at, waits);
-    let total = run_line(input, p, memory, waits, out);
-    gate_lines(input, p, memory, waits, total, out);
-    file_line(input, p, memory, journal, out);
-    image_line(input, p, memory, out);
+// file ANSWER ran pairs cvnz r0..r7 j0.. m0..
+fn file_line(memory: List, start: Machine, count: u32) {
+    let mut journal = [0u32; MOST_PLACES];
+    let mut words = memory.words;
+    let result = interpreter::file_run(
+        front_words(&mut words, memory.count),
+        front_words(&mut journal, 2 * wide(count)),
+        start,
+        count,
+    );
+    let answer = result.answer;
+    let machine = result.machine;
+    print_file_answer(answer);
+    print_counted(result.ran as u64, result.pairs as u64, machine);
+    print_words(&journal, 2 * wide(result.pairs));
+    print_memory(words, memory.count);
 }
 
-pub fn program_case(input: &[u8], at: usize, out: &mut [u8]) -> usize {
-    let mut memory = [0u32; MOST_WORDS];
-    let mut waits = [0u16; MOST_WAITS];
-    let mut journal = [0u32; MOST_PLACES];
-    let words = list_at(input, at, MOST_WORDS);
-    let entries = list_at(input, forward(words.next, MACHINE_WORDS), MOST_WAITS);
-    let count = number_at(input, entries.next, MOST_COUNT);
-    let start = machine_at(input, words.next);
-    let p = Program {
-        memory_at: words.at,
-        waits_at: entries.at,
-        start,
-        count: count as u32,
-    };
-    let m = words.count;
-    let w = entries.count;
-    let j = 2 * count;
-    run_program(
-        input,
-        p,
-        &mut memory[0..m],
-        &mut waits[0..w],
-        &mut journal[0..j],
-        out,
-    );
-    forward(entries.next, 1)
+fn add_byte(sum: u64, byte: u8) -> u64 {
+    (257 * (sum % 65_521) + byte as u64) % 65_521
+}
+
+fn sum_of(bytes: &[u8], count: usize) -> u64 {
+    let end = least(count, bytes.len());
+    let mut sum = 0;
+    let mut i = 0;
+    while i < end {
+        sum = add_byte(sum, bytes[i]);
+        i += 1;
+    }
+    sum
+}
+
+fn write_image(words: &[u32], count: usize, start: Machine, bytes: &mut [u8]) -> WriteResult {
+    let end = least(count, words.len());
+    image_writer::write(&words[0..end], start, bytes)
+}
+
+fn print_size(size: usize, sum: u64) {
+    print(b"image");
+    print_number(size as u64);
+    print_number(sum);
+}
+
+// image size sum
+fn image_line(memory: List, start: Machine) {
+    let mut bytes = [0u8; MOST_IMAGE];
+    let words = memory.words;
+    match write_image(&words, memory.count, start, &mut bytes) {
+        WriteResult::Written(size) => print_size(size, sum_of(&bytes, size)),
+        WriteResult::Refused(why) => print_refused(b"image", why),
+    }
+}
+
+pub fn program_case() {
+    let memory = next_list();
+    let start = next_machine();
+    let waits = next_list();
+    let count = next_number(MOST_COUNT) as u32;
+    let total = run_line(memory, waits, start, count);
+    gate_lines(memory, waits, between(start), total);
+    file_line(memory, start, count);
+    image_line(memory, start);
+    print(b"\n");
 }

@@ -1,86 +1,95 @@
 // A gate state: what a number of clocks makes of it.
-use super::input::MACHINE_WORDS;
-use super::input::MOST_WAITS;
-use super::input::MOST_WORDS;
-use super::input::fill_waits;
-use super::input::fill_words;
-use super::input::forward;
-use super::input::half_at;
-use super::input::list_at;
-use super::input::machine_at;
-use super::input::number_at;
-use super::input::word_at;
-use super::results::write_state;
+use super::input::List;
+use super::input::MOST_LIST;
+use super::input::front_waits;
+use super::input::front_words;
+use super::input::half;
+use super::input::next_list;
+use super::input::next_machine;
+use super::input::next_number;
+use super::input::next_word;
+use super::print::print;
+use super::print::print_machine;
+use super::print::print_memory;
+use super::print::print_number;
+use super::print::print_refused;
+use super::print::print_words;
+use gate_machine::GateAnswer;
+use gate_machine::GateResult;
 use model::GateState;
+use model::Machine;
 
 const MOST_CLOCKS: usize = 400;
 
-// The words of row, latches, position, begun and left.
-const LATCH_WORDS: usize = 9;
-
-// Where the parts of a case stand.
-struct Places {
-    memory: usize,
-    waits: usize,
-    state: usize,
+// What a gate run answers, and the memory after it.
+pub struct GateRun {
+    pub result: GateResult,
+    pub words: [u32; MOST_LIST],
 }
 
-fn state_at(input: &[u8], at: usize) -> GateState {
-    let machine = machine_at(input, at);
+pub fn run_gates(memory: List, entries: List, start: GateState, clocks: u64) -> GateRun {
+    let mut words = memory.words;
+    let waits = entries.waits;
+    let result = gate_machine::run(
+        front_words(&mut words, memory.count),
+        front_waits(&waits, entries.count),
+        start,
+        clocks,
+    );
+    GateRun { result, words }
+}
+
+fn next_state() -> GateState {
+    let machine = next_machine();
     let regs = machine.regs;
     let flags = machine.flags;
-    let row_at = forward(at, MACHINE_WORDS);
     GateState {
         regs,
         flags,
-        row: (word_at(input, row_at) % 256) as u8,
-        instruction: word_at(input, forward(row_at, 1)),
-        address: word_at(input, forward(row_at, 2)),
-        a: word_at(input, forward(row_at, 3)),
-        b: word_at(input, forward(row_at, 4)),
-        result: word_at(input, forward(row_at, 5)),
-        position: word_at(input, forward(row_at, 6)),
-        begun: word_at(input, forward(row_at, 7)) != 0,
-        left: half_at(input, forward(row_at, 8)),
+        row: (next_word() % 256) as u8,
+        instruction: next_word(),
+        address: next_word(),
+        a: next_word(),
+        b: next_word(),
+        result: next_word(),
+        position: next_word(),
+        begun: next_word() != 0,
+        left: half(next_word()),
     }
 }
 
-fn state_line(
-    input: &[u8],
-    p: Places,
-    clocks: u64,
-    memory: &mut [u32],
-    waits: &mut [u16],
-    out: &mut [u8],
-) {
-    fill_words(input, p.memory, memory);
-    fill_waits(input, p.waits, waits);
-    let start = state_at(input, p.state);
-    let result = gate_machine::run(memory, waits, start, clocks);
-    write_state(out, result, memory);
+fn print_gate_answer(answer: GateAnswer) {
+    match answer {
+        GateAnswer::Ran => print(b"state ran"),
+        GateAnswer::Refused(why) => print_refused(b"state", why),
+    }
 }
 
-pub fn state_case(input: &[u8], at: usize, out: &mut [u8]) -> usize {
-    let mut memory = [0u32; MOST_WORDS];
-    let mut waits = [0u16; MOST_WAITS];
-    let words = list_at(input, at, MOST_WORDS);
-    let entries = list_at(input, words.next, MOST_WAITS);
-    let places = Places {
-        memory: words.at,
-        waits: entries.at,
-        state: entries.next,
-    };
-    let clocks_at = forward(entries.next, MACHINE_WORDS + LATCH_WORDS);
-    let clocks = number_at(input, clocks_at, MOST_CLOCKS) as u64;
-    let m = words.count;
-    let w = entries.count;
-    state_line(
-        input,
-        places,
-        clocks,
-        &mut memory[0..m],
-        &mut waits[0..w],
-        out,
-    );
-    forward(clocks_at, 1)
+// cvnz r0..r7 row instruction address a b result position begun left
+fn print_state(s: GateState) {
+    let regs = s.regs;
+    let flags = s.flags;
+    print_machine(Machine { regs, flags });
+    print_number(s.row as u64);
+    print_words(&[s.instruction, s.address, s.a, s.b, s.result], 5);
+    print_number(s.position as u64);
+    print_number(s.begun as u64);
+    print_number(s.left as u64);
+}
+
+// state ANSWER finished, the state, m0..
+pub fn state_case() {
+    let memory = next_list();
+    let waits = next_list();
+    let start = next_state();
+    let clocks = next_number(MOST_CLOCKS) as u64;
+    let run = run_gates(memory, waits, start, clocks);
+    let result = run.result;
+    let answer = result.answer;
+    let state = result.state;
+    let words = run.words;
+    print_gate_answer(answer);
+    print_number(result.finished);
+    print_state(state);
+    print_memory(words, memory.count);
 }

@@ -1,5 +1,4 @@
 -- No generated case fails: antt computes the definitions.
--- Assumes nothing.
 use mathlib.Core.Path.{_≡_, refl}
 use mathlib.Core.List.{[]}
 use Rattle.arithmetic.specs.Words.{signedOf, leaves}
@@ -7,6 +6,7 @@ use Rattle.arithmetic.specs.Alu.{sumOf, differenceOf, halvedOf, answers, aluAt,
 use Rattle.model.specs.Words.{field, bit}
 use Rattle.model.specs.Operands.{operandA, operandB}
 use Rattle.model.specs.Alu.{isMove, operation, alu, flagsAfter, stores}
+use Rattle.model.specs.Packed.{packedOf, flagsOf}
 use Rattle.model.specs.Waits.{waitAt, nextWait, waitSum, positionAfter}
 use Rattle.model.specs.Interpreter.{execute, stop, advance, interpret}
 use Rattle.model.specs.Gates.{work, isAccess, remaining, positionNow, workOrWait, clock, gateRun}
@@ -15,9 +15,9 @@ use Rattle.definition_cases.specs.Shape.{runFailures, gateFailures}
 use Rattle.definition_cases.specs.Cases.{runCases, gateCases}
 
 pub runs : runFailures 0 runCases ≡ []
-unfolding field bit operandA operandB signedOf leaves sumOf differenceOf halvedOf answers aluAt aluOf isMove operation alu flagsAfter stores waitAt nextWait waitSum positionAfter execute stop advance interpret storedBy journalPairs journalWords
+unfolding field bit packedOf flagsOf operandA operandB signedOf leaves sumOf differenceOf halvedOf answers aluAt aluOf isMove operation alu flagsAfter stores waitAt nextWait waitSum positionAfter execute stop advance interpret storedBy journalPairs journalWords
 runs = refl
 
 pub gates : gateFailures 0 gateCases ≡ []
-unfolding field bit operandA operandB signedOf leaves sumOf differenceOf halvedOf answers aluAt aluOf isMove operation alu flagsAfter stores waitAt nextWait work isAccess remaining positionNow workOrWait clock gateRun
+unfolding field bit packedOf flagsOf operandA operandB signedOf leaves sumOf differenceOf halvedOf answers aluAt aluOf isMove operation alu flagsAfter stores waitAt nextWait work isAccess remaining positionNow workOrWait clock gateRun
 gates = refl

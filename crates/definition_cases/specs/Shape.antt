@@ -1,18 +1,16 @@
--- Generated cases of both engines: inputs, what the reference emulator gave, and whether the model's definitions give the same.
--- Assumes nothing.
-use Prim.Native.Nat.{ℕ, suc, _+_, _*_}
+-- Generated cases of both engines: inputs, what the reference emulator gave, and whether the model's definitions give the same. A test of the definitions of document 01, "Machine and instruction word", "Clocks" and "File run and journal".
+use Prim.Native.Nat.{ℕ, suc}
 use mathlib.Core.Bool.{Bool, true, false, cond, _&&_}
 use mathlib.Core.List.{List, [], _∷_}
 use lib.Dec.{eqb}
 use lib.ListN.{getD}
 use Rattle.arithmetic.specs.Words.{asNumber}
-use Rattle.model.specs.declared.Flags.{Flags}
 use Rattle.model.specs.declared.GateState.{GateState}
 use Rattle.model.specs.declared.Ending.{Ending}
 use Rattle.model.specs.declared.Ending.the-variants.{Finished, Outside}
-use Rattle.model.specs.Words.{bit}
-use Rattle.model.specs.Interpreter.{Run, begin, interpret}
-use Rattle.model.specs.Gates.{Gate, gateRun}
+use Rattle.model.specs.Packed.{packedOf, flagsOf}
+use Rattle.model.specs.Interpreter.{begin, interpret}
+use Rattle.model.specs.Gates.{gateRun}
 use Rattle.model.specs.Agreement.{gateFrom}
 use Rattle.model.specs.Journal.{journalPairs, journalWords}
 
@@ -21,13 +19,6 @@ same [] [] = true
 same [] (y ∷ ys) = false
 same (x ∷ xs) [] = false
 same (x ∷ xs) (y ∷ ys) = eqb x y && same xs ys
-
--- flags as a number: C is 8, V 4, N 2, Z 1
-abbrev pub flagsOf : ℕ → Flags
-flagsOf n = record { carry = bit n 3; overflow = bit n 2; negative = bit n 1; zero = bit n 0 }
-
-abbrev pub flagNumber : Flags → ℕ
-flagNumber f = 8 * asNumber (f .carry) + 4 * asNumber (f .overflow) + 2 * asNumber (f .negative) + asNumber (f .zero)
 
 abbrev pub isOutside : Ending → Bool
 isOutside Finished = false
@@ -49,7 +40,7 @@ runHolds (runCase memory regs flags waits n memory′ regs′ flags′ journal r
     let r = interpret waits n start in
     same (r .memory) memory′
     && same (r .machine .regs) regs′
-    && eqb (flagNumber (r .machine .flags)) flags′
+    && eqb (packedOf (r .machine .flags)) flags′
     && same (journalWords (journalPairs waits n start)) journal
     && eqb (r .ran) ran
     && eqb (r .clocks) clocks
@@ -78,7 +69,7 @@ stateOf regs latches =
 
 abbrev pub latchesOf : GateState → List ℕ
 latchesOf s =
-    flagNumber (s .flags) ∷ s .row ∷ s .instruction ∷ s .address ∷ s .a ∷ s .b ∷ s .result ∷ s .position ∷ asNumber (s .begun) ∷ s .left ∷ []
+    packedOf (s .flags) ∷ s .row ∷ s .instruction ∷ s .address ∷ s .a ∷ s .b ∷ s .result ∷ s .position ∷ asNumber (s .begun) ∷ s .left ∷ []
 
 abbrev pub gateHolds : GateCase → Bool
 gateHolds (gateCase memory waits regs latches clocks memory′ regs′ latches′ finished) =

@@ -1,5 +1,4 @@
--- One clock, as the code takes it apart: the access protocol of document 01, "Clocks", then the row's work.
--- Assumes nothing.
+-- One clock, as the code takes it apart: the access protocol, then the row's work. Document 01, "Clocks".
 use Prim.Native.Nat.{ℕ}
 use mathlib.Core.Path.{_≡_}
 use mathlib.Core.Bool.{Bool, true, false, not, cond}

@@ -1,6 +1,5 @@
 -- The contracts of the public calls: what each returns and leaves in what it was lent, refused or not.
 -- Document 01, "Clocks": a gate run does all k clocks and returns how many instructions finished; the lent clock has the checks and outcome of a gate run of one.
--- Assumes nothing.
 use Prim.Native.Nat.{ℕ}
 use mathlib.Core.Path.{_≡_}
 use mathlib.Core.List.{List}

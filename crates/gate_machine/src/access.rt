@@ -1,6 +1,6 @@
 // The access protocol: an access takes its wait on its first clock, counts it down, and does the row's work on the last.
 use gate_rows::Latches;
-use instruction::memory::wide;
+use operands::wide;
 ghost use mathlib.Core.Path.{_≡_};
 ghost use mathlib.Core.List.{[]};
 ghost use Prim.Native.Nat.{_≤_};

@@ -1,15 +1,13 @@
 // The gate machine: a run of clocks, one clock by value, and one clock on a borrowed state.
 mod access;
-mod checks;
-mod index;
 mod machine;
 mod parts;
 
-use checks::verdict_of;
 use machine::run_clocks;
 use model::GateState;
 use model::Refusal;
 use model::Verdict;
+use refusals::gate_verdict;
 ghost use Rattle.gate_machine.specs.Outcome.{Runs, Clocks, LentClock};
 
 pub enum GateAnswer {
@@ -38,7 +36,7 @@ pub struct Clocked {
 pub fn run(memory: &mut [u32], waits: &[u16], start: GateState, clocks: u64) -> GateResult
     ensures { λ r. ⌜ Runs (now (memory .entry)) (now (waits .entry)) start clocks r (now (memory .exit)) ⌝ }
 {
-    let verdict = verdict_of(&*memory, waits, start);
+    let verdict = gate_verdict(&*memory, waits, start);
     match verdict {
         Verdict::Accepted => {
             let end = run_clocks(memory, waits, start, clocks);

@@ -1,6 +1,5 @@
 // One clock on registers that are lent, and the loop over the clocks, which alone calls it.
 use super::access::granted;
-use super::index::row_index;
 use super::parts::latches_of;
 use super::parts::state_of;
 use gate_rows::Latches;
@@ -51,6 +50,13 @@ fn tick(s: Latches, step: Step, regs: &mut [u32; 8], memory: &mut [u32], waits: 
 pub struct GateEnd {
     pub state: GateState,
     pub finished: u64,
+}
+
+// A row of the step table as an index.
+fn row_index(row: u8) -> usize
+    ensures { λ r. ⌜ r ≡ row ⌝ }
+{
+    row as usize
 }
 
 fn one(b: bool) -> u64

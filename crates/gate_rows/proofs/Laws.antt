@@ -1,5 +1,4 @@
 -- Laws for the row functions: a row's work from what its function leaves, and the two ways of preparing an operand.
--- Assumes nothing.
 use Prim.Native.Nat.{ℕ, zero, suc, _≤_, zero-le}
 use mathlib.Core.Path.{_≡_, refl, sym, ap, _∙_}
 use mathlib.Core.Bool.{Bool, true, false, cond}
@@ -9,7 +8,7 @@ use lib.ListN.{getD, List·getD-eq-default}
 use Rattle.model.specs.declared.Operand.{Operand}
 use Rattle.model.specs.declared.GateState.{GateState}
 use Rattle.model.specs.Operands.{inMemory, stepDown, registerWord}
-use Rattle.model.specs.Gates.{Gate, gate, withRow, withRegs, withAddress, prepare, rows, work}
+use Rattle.model.specs.Gates.{Gate, gate, withRow, withRegs, withAddress, withA, withB, prepare, rows, work}
 use Rattle.gate_rows.specs.declared.latches.Latches.{Latches}
 use Rattle.gate_rows.specs.declared.table.Step.{Step}
 use Rattle.gate_rows.specs.Work.{stateOf, operandRow, nextRows, leads, Works, preparedBy}
@@ -70,3 +69,9 @@ module _ (step : Step) (o : Operand) (latch : ℕ → GateState → GateState) (
           ≡ withRow (cond b (step .0) (step .1)) (cond b (withRow read (withAddress (registerWord o (down .regs)) down)) (withRow next (latch (registerWord o (down .regs)) down)))
       go true = refl
       go false = refl
+
+-- the operand latched is B where it is the second
+pub prepared-direct : (step : Step) (o : Operand) (s : GateState) {second : Bool} (v : Bool) → second ≡ v → false ≡ inMemory o
+    → {regs : List ℕ} → regs ≡ stepDown o (s .regs) → {word : ℕ} → word ≡ registerWord o regs
+    → withRow (step .1) (cond v withB withA word (withRegs regs s)) ≡ preparedBy step o (cond second withB withA) s
+prepared-direct step o s v e m p q = rw e (prepared step o (cond v withB withA) s false m p q)

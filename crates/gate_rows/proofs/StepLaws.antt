@@ -1,5 +1,4 @@
 -- The table's own step: it leads where the model's row does, and marks the row that finishes an instruction.
--- Assumes nothing.
 use Prim.Native.Nat.{ℕ, zero, suc, _+_, _<_}
 use mathlib.Core.Path.{_≡_, refl, sym, ap, _∙_}
 use mathlib.Core.Bool.{Bool, true, false, cond}

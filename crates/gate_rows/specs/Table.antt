@@ -1,35 +1,21 @@
--- The step table of document 01, "Clocks", read off the model: where each row leads, and its control marks.
--- Assumes nothing.
+-- The step table, read off the model's rows: where each row leads, and its control marks. Document 01, "Clocks".
 use Prim.Native.Nat.{ℕ, zero, suc, _+_, _*_}
 use mathlib.Core.Bool.{Bool, true, false}
 use mathlib.Core.List.{List, [], _∷_}
 use lib.ListN.{getD}
 use Rattle.arithmetic.specs.Words.{asNumber}
+use Rattle.model.specs.declared.Flags.{Flags}
 use Rattle.model.specs.Words.{field, bit}
 use Rattle.model.specs.Operands.{operandA, operandB}
 use Rattle.model.specs.Alu.{isMove, operation, stores}
-use Rattle.model.specs.Gates.{Gate, gate, rows, isAccess}
+use Rattle.model.specs.Gates.{withRow, withInstruction, atRest, Gate, gate, rows, isAccess}
 use Rattle.gate_rows.specs.declared.table.Step.{Step}
 
 -- a machine in row r, with an instruction and the carry; all else is 0
 abbrev pub probe : ℕ → ℕ → Bool → Gate
 probe r word carry =
-    gate
-    (record {
-      regs = 0 ∷ 0 ∷ 0 ∷ 0 ∷ 0 ∷ 0 ∷ 0 ∷ 0 ∷ [];
-      flags = record { carry = carry; overflow = false; negative = false; zero = false };
-      row = r;
-      instruction = word;
-      address = 0;
-      a = 0;
-      b = 0;
-      result = 0;
-      position = 0;
-      begun = false;
-      left = 0;
-    })
-    []
-    0
+    let flags : Flags = record { carry = carry; overflow = false; negative = false; zero = false } in
+    gate (withRow r (withInstruction word (atRest (0 ∷ 0 ∷ 0 ∷ 0 ∷ 0 ∷ 0 ∷ 0 ∷ 0 ∷ []) flags))) [] 0
 
 -- the model's row r on it
 abbrev pub probed : ℕ → ℕ → Bool → Gate

@@ -1,5 +1,4 @@
 -- What a row's work leaves: the model's work, with the next row taken from a step of the table. Document 01, "Clocks".
--- Assumes nothing.
 use Prim.Native.Nat.{ℕ, _+_}
 use mathlib.Core.Path.{_≡_}
 use mathlib.Core.Bool.{Bool, cond}

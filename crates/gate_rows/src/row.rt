@@ -2,19 +2,20 @@
 use super::compute::compute;
 use super::latches::Latches;
 use super::table::Step;
-use instruction::memory::load;
-use instruction::memory::store;
-use instruction::memory::wide;
-use instruction::operand::in_memory;
-use instruction::operand::operand_a;
-use instruction::operand::operand_b;
-use instruction::registers::register_word;
-use instruction::registers::set_register;
-use instruction::registers::step_down;
-use instruction::registers::step_pc;
-use instruction::registers::step_up;
 use model::Operand;
+use operands::in_memory;
+use operands::load;
+use operands::operand_a;
+use operands::operand_b;
+use operands::register_word;
+use operands::set_register;
+use operands::step_down;
+use operands::step_pc;
+use operands::step_up;
+use operands::store;
+use operands::wide;
 ghost use mathlib.Core.Path.{_≡_};
+ghost use mathlib.Core.Bool.{cond};
 ghost use mathlib.Core.List.{List};
 ghost use Prim.Native.Nat.{ℕ};
 ghost use Rattle.model.specs.Gates.{withRow, withInstruction, withAddress, withA, withB};
@@ -59,38 +60,19 @@ fn latch_b(mut s: Latches, x: u32, next: u8) -> Latches
     s
 }
 
-// A's register steps down; then its word is the address, or A where that is direct.
-fn prepare_a(mut s: Latches, o: Operand, regs: &mut [u32; 8], step: Step) -> Latches
-    ensures { λ r. ⌜ stateOf (now (regs .exit)) r ≡ preparedBy step o withA (stateOf (now (regs .entry)) s) ⌝ }
+// The register of A, or of B as the second operand, steps down; then its word is the address, or the operand where that is direct.
+fn prepare(s: Latches, o: Operand, second: bool, regs: &mut [u32; 8], step: Step) -> Latches
+    ensures { λ r. ⌜ stateOf (now (regs .exit)) r ≡ preparedBy step o (cond second withB withA) (stateOf (now (regs .entry)) s) ⌝ }
 {
     step_down(o, &mut *regs);
     let word = register_word(o, &*regs);
     if in_memory(o) {
-        s.address = word;
-        s.row = step.0;
-        s
-    } else {
-        s.a = word;
-        s.row = step.1;
-        s
+        return latch_address(s, word, step.0);
     }
-}
-
-// The same for B.
-fn prepare_b(mut s: Latches, o: Operand, regs: &mut [u32; 8], step: Step) -> Latches
-    ensures { λ r. ⌜ stateOf (now (regs .exit)) r ≡ preparedBy step o withB (stateOf (now (regs .entry)) s) ⌝ }
-{
-    step_down(o, &mut *regs);
-    let word = register_word(o, &*regs);
-    if in_memory(o) {
-        s.address = word;
-        s.row = step.0;
-        s
-    } else {
-        s.b = word;
-        s.row = step.1;
-        s
+    if second {
+        return latch_b(s, word, step.1);
     }
+    latch_a(s, word, step.1)
 }
 
 // The work of the row that the machine is in, with its step of the table; past the table there is none.
@@ -107,9 +89,9 @@ pub fn work(s: Latches, step: Step, regs: &mut [u32; 8], memory: &mut [u32]) -> 
             step_pc(regs);
             moved(s, next)
         }
-        3 => prepare_a(s, operand_a(word), regs, step),
+        3 => prepare(s, operand_a(word), false, regs, step),
         4 => latch_a(s, load(&*memory, wide(s.address)), next),
-        5 => prepare_b(s, operand_b(word), regs, step),
+        5 => prepare(s, operand_b(word), true, regs, step),
         6 => latch_b(s, load(&*memory, wide(s.address)), next),
         7 => compute(s, step),
         8 => {

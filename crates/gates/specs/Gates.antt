@@ -1,5 +1,5 @@
--- The arithmetic unit in gates (document 01, "The arithmetic unit uses only one- and two-input gates on single bits, with a ripple adder shown right for all widths
--- together"). Rows of bits stand lowest bit first and may have any width. The gates are `not`, `_&&_`, `_||_` and `_⊕_`.
+-- The arithmetic unit in gates of one and two inputs on single bits, with the ripple adder. Document 01, "Clocks", its last paragraph.
+-- Rows of bits stand lowest bit first and may have any width. The gates are `not`, `_&&_`, `_||_` and `_⊕_`.
 use Prim.Native.Nat.{ℕ, zero, suc, _+_, _*_, _/_, _%_}
 use mathlib.Core.Bool.{Bool, not, _&&_, _||_}
 use mathlib.Core.List.{List, [], _∷_}

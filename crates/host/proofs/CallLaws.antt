@@ -1,96 +1,98 @@
 -- The exported calls over the calls that they pass on: what is lent has not the layout's form, or it has, and the call within ended so.
--- Assumes nothing.
 use Prim.Native.Nat.{ℕ}
 use mathlib.Core.Path.{_≡_}
-use mathlib.Core.Bool.{true, false}
+use mathlib.Core.Bool.{true, false, not}
 use mathlib.Core.List.{List, [], _∷_}
 use lib.ListN.{length}
-use borrow.Author.Tests.{eq-eqb}
-use Rattle.model.specs.declared.Machine.{Machine}
-use Rattle.model.specs.declared.GateState.{GateState}
 use Rattle.interpreter.specs.declared.RunResult.{RunResult}
 use Rattle.interpreter.specs.declared.FileResult.{FileResult}
 use Rattle.interpreter.specs.Calls.{Runs, FileRuns}
 use Rattle.gate_machine.specs.declared.GateResult.{GateResult}
-use Rattle.gate_machine.specs.declared.Clocked.{Clocked}
 use Rattle.gate_machine.specs.Outcome.{gateOutcome}
 use Rattle.image.specs.declared.ReadResult.{ReadResult}
 use Rattle.image.specs.declared.WriteResult.{WriteResult}
 use Rattle.image.specs.Calls.{Reads, Writes, readCount}
-use Rattle.host_words.specs.Layout.{machineIn, machineWords, machineFits, stateIn, stateWords, stateFits}
-use Rattle.host_words.specs.Codes.{codeNumber, misfit, codeIf, runCode, fileCode, gateCode, readCode, Ends, WriteEnds}
-use Rattle.host_words.proofs.FitLaws.{machine-lengths}
+use Rattle.host_reading.specs.declared.MachineLent.{MachineLent}
+use Rattle.host_reading.specs.declared.StateLent.{StateLent}
+use Rattle.host_reading.specs.Layout.{machineSize, machineLent, stateSize, stateLent}
+use Rattle.host_words.specs.Words.{machineWords, stateWords, laid}
+use Rattle.host_ends.specs.Codes.{codeNumber, misfit, runCode, fileCode, gateCode, readCode, Ends, WriteEnds}
+use Rattle.host_reading.proofs.FitLaws.{machine-tests, state-tests}
+use Rattle.host_reading.proofs.ReadingLaws.{machine-misfits, machine-fits, machine-start, state-misfits, state-fits, state-start}
+use Rattle.host_ends.proofs.FitEnds.{ends-fitting}
 use Rattle.host.specs.Calls.{ran, runWords, RunCall, filed, fileWords, filePlaces, FileCall, clocked, GateCall, readBack, wordsRead, ReadCall, written, bytesWritten, WriteCall}
 
-module _ (memory waits machine : List ℕ) (count : ℕ) (result : List ℕ) where
-  pub run-misfit : machineFits (length machine) (length result) 2 ≡ false → RunCall memory waits machine count result memory machine result (codeNumber misfit)
-  run-misfit f = record { returned = rw f; words = rw f; registers = rw f; numbers = rw f }
+module _ (memory waits machine : List ℕ) (count : ℕ) (result : List ℕ) (lent : MachineLent) (e : lent ≡ machineLent machine (length result) 2) where
+  pub run-misfit : not (lent .fits) ≡ true → RunCall memory waits machine count result memory machine result (codeNumber misfit)
+  run-misfit n = let f = machine-misfits machine (length result) 2 lent e n in record { returned = rw f; words = rw f; registers = rw f; numbers = rw f }
 
-  module _ (f : machineFits (length machine) (length result) 2 ≡ true) (start : Machine) (s : start ≡ machineIn machine) (r : RunResult) (memory′ : List ℕ) (runs : Runs memory waits start count memory′ r) where
+  module _ (n : not (lent .fits) ≡ false) (r : RunResult) (memory′ : List ℕ) (runs : Runs memory waits (lent .machine) count memory′ r) where
     same : r ≡ ran memory waits machine count
     unfolding ran
-    same = rw s at (runs .result)
+    same = rw (machine-start machine (length result) 2 lent e n) at (runs .result)
 
     left : memory′ ≡ runWords memory waits machine count
     unfolding runWords
-    left = rw s at (runs .words)
+    left = rw (machine-start machine (length result) 2 lent e n) at (runs .words)
 
-    pub run-fits : (machine′ result′ : List ℕ) (code : ℕ) → Ends (codeIf (machineFits (length machine) (length result) 2) (runCode (r .answer))) (machineWords (r .machine)) (r .ran ∷ r .clocks ∷ []) machine result machine′ result′ code
+    pub run-fits : (machine′ result′ : List ℕ) (code : ℕ) → Ends (runCode (r .answer)) (laid machineSize (machineWords (r .machine)) machine) (laid 2 (r .ran ∷ r .clocks ∷ []) result) machine result machine′ result′ code
         → RunCall memory waits machine count result memory′ machine′ result′ code
     run-fits machine′ result′ code g =
-        record { returned = rw (← same) (g .returned); words = rw f left; registers = rw (← same) (g .registers); numbers = rw (← same) (g .numbers) }
+        let f = machine-fits machine (length result) 2 lent e n in
+        let ends = ends-fitting _ f machineSize 2 _ _ _ machine result _ _ _ (machine-tests (length machine) (length result) 2 f) g in
+        record { returned = rw (← same) (ends .returned); words = rw f left; registers = rw (← same) (ends .registers); numbers = rw (← same) (ends .numbers) }
 
-module _ (memory journal machine : List ℕ) (count : ℕ) (result : List ℕ) where
-  pub file-misfit : machineFits (length machine) (length result) 2 ≡ false → FileCall memory journal machine count result memory journal machine result (codeNumber misfit)
-  file-misfit f = record { returned = rw f; words = rw f; places = rw f; registers = rw f; numbers = rw f }
+module _ (memory journal machine : List ℕ) (count : ℕ) (result : List ℕ) (lent : MachineLent) (e : lent ≡ machineLent machine (length result) 2) where
+  pub file-misfit : not (lent .fits) ≡ true → FileCall memory journal machine count result memory journal machine result (codeNumber misfit)
+  file-misfit n = let f = machine-misfits machine (length result) 2 lent e n in record { returned = rw f; words = rw f; places = rw f; registers = rw f; numbers = rw f }
 
-  module _ (f : machineFits (length machine) (length result) 2 ≡ true) (start : Machine) (s : start ≡ machineIn machine) (r : FileResult) (memory′ journal′ : List ℕ)
-      (runs : FileRuns memory journal start count memory′ journal′ r) where
+  module _ (n : not (lent .fits) ≡ false) (r : FileResult) (memory′ journal′ : List ℕ)
+      (runs : FileRuns memory journal (lent .machine) count memory′ journal′ r) where
     file-same : r ≡ filed memory journal machine count
     unfolding filed
-    file-same = rw s at (runs .result)
+    file-same = rw (machine-start machine (length result) 2 lent e n) at (runs .result)
 
     file-words : memory′ ≡ fileWords memory journal machine count
     unfolding fileWords
-    file-words = rw s at (runs .words)
+    file-words = rw (machine-start machine (length result) 2 lent e n) at (runs .words)
 
     file-places : journal′ ≡ filePlaces memory journal machine count
     unfolding filePlaces
-    file-places = rw s at (runs .places)
+    file-places = rw (machine-start machine (length result) 2 lent e n) at (runs .places)
 
-    pub file-fits : (machine′ result′ : List ℕ) (code : ℕ) → Ends (codeIf (machineFits (length machine) (length result) 2) (fileCode (r .answer))) (machineWords (r .machine)) (r .ran ∷ r .pairs ∷ []) machine result machine′ result′ code
+    pub file-fits : (machine′ result′ : List ℕ) (code : ℕ) → Ends (fileCode (r .answer)) (laid machineSize (machineWords (r .machine)) machine) (laid 2 (r .ran ∷ r .pairs ∷ []) result) machine result machine′ result′ code
         → FileCall memory journal machine count result memory′ journal′ machine′ result′ code
     file-fits machine′ result′ code g =
-        record { returned = rw (← file-same) (g .returned); words = rw f file-words; places = rw f file-places; registers = rw (← file-same) (g .registers); numbers = rw (← file-same) (g .numbers) }
+        let f = machine-fits machine (length result) 2 lent e n in
+        let ends = ends-fitting _ f machineSize 2 _ _ _ machine result _ _ _ (machine-tests (length machine) (length result) 2 f) g in
+        record { returned = rw (← file-same) (ends .returned); words = rw f file-words; places = rw f file-places; registers = rw (← file-same) (ends .registers); numbers = rw (← file-same) (ends .numbers) }
 
-module _ (memory waits state : List ℕ) (clocks : ℕ) (result : List ℕ) where
-  pub gate-misfit : stateFits state (length result) ≡ false → GateCall memory waits state clocks result memory state result (codeNumber misfit)
-  gate-misfit f = record { returned = rw f; words = rw f; registers = rw f; numbers = rw f }
+module _ (memory waits state : List ℕ) (clocks : ℕ) (result : List ℕ) (lent : StateLent) (e : lent ≡ stateLent state (length result)) where
+  pub gate-misfit : not (lent .fits) ≡ true → GateCall memory waits state clocks result memory state result (codeNumber misfit)
+  gate-misfit n = let f = state-misfits state (length result) lent e n in record { returned = rw f; words = rw f; registers = rw f; numbers = rw f }
 
-  module _ (f : stateFits state (length result) ≡ true) (start : GateState) (s : start ≡ stateIn state) (r : GateResult) (memory′ : List ℕ)
-      (e : r ≡ gateOutcome memory waits start clocks .result) (m : memory′ ≡ gateOutcome memory waits start clocks .memory) where
+  module _ (n : not (lent .fits) ≡ false) (r : GateResult) (memory′ : List ℕ)
+      (o : r ≡ gateOutcome memory waits (lent .state) clocks .result) (m : memory′ ≡ gateOutcome memory waits (lent .state) clocks .memory) where
     gate-same : r ≡ clocked memory waits state clocks .result
     unfolding clocked
-    gate-same = rw s at e
+    gate-same = rw (state-start state (length result) lent e n) at o
 
     gate-words : memory′ ≡ clocked memory waits state clocks .memory
     unfolding clocked
-    gate-words = rw s at m
+    gate-words = rw (state-start state (length result) lent e n) at m
 
-    pub gate-fits : (state′ result′ : List ℕ) (code : ℕ) → Ends (codeIf (stateFits state (length result)) (gateCode (r .answer))) (stateWords (r .state)) (r .finished ∷ []) state result state′ result′ code
+    pub gate-fits : (state′ result′ : List ℕ) (code : ℕ) → Ends (gateCode (r .answer)) (laid stateSize (stateWords (r .state)) state) (laid 1 (r .finished ∷ []) result) state result state′ result′ code
         → GateCall memory waits state clocks result memory′ state′ result′ code
     gate-fits state′ result′ code g =
-        record { returned = rw (← gate-same) (g .returned); words = rw f gate-words; registers = rw (← gate-same) (g .registers); numbers = rw (← gate-same) (g .numbers) }
+        let f = state-fits state (length result) lent e n in
+        let ends = ends-fitting _ f stateSize 1 _ _ _ state result _ _ _ (state-tests state (length result) f) g in
+        record { returned = rw (← gate-same) (ends .returned); words = rw f gate-words; registers = rw (← gate-same) (ends .registers); numbers = rw (← gate-same) (ends .numbers) }
 
--- what one clock returns, as a gate run returns it
-abbrev pub asRun : Clocked → GateResult
-asRun r = record { answer = r .outcome .answer; state = r .state; finished = r .outcome .finished }
+module _ (bytes memory machine result : List ℕ) (lent : MachineLent) (e : lent ≡ machineLent machine (length result) 1) where
+  pub read-misfit : not (lent .fits) ≡ true → ReadCall bytes memory machine result memory machine result (codeNumber misfit)
+  read-misfit n = let f = machine-misfits machine (length result) 1 lent e n in record { returned = rw f; words = rw f; registers = rw f; numbers = rw f }
 
-module _ (bytes memory machine result : List ℕ) where
-  pub read-misfit : machineFits (length machine) (length result) 1 ≡ false → ReadCall bytes memory machine result memory machine result (codeNumber misfit)
-  read-misfit f = record { returned = rw f; words = rw f; registers = rw f; numbers = rw f }
-
-  module _ (f : machineFits (length machine) (length result) 1 ≡ true) (r : ReadResult) (memory′ : List ℕ) (reads : Reads bytes memory memory′ r) where
+  module _ (n : not (lent .fits) ≡ false) (r : ReadResult) (memory′ : List ℕ) (reads : Reads bytes memory memory′ r) where
     read-same : r ≡ readBack bytes memory
     unfolding readBack
     read-same = reads .result
@@ -99,26 +101,29 @@ module _ (bytes memory machine result : List ℕ) where
     unfolding wordsRead
     read-words = reads .words
 
-    pub read-fits : (machine′ result′ : List ℕ) (code : ℕ) → Ends (codeIf (machineFits (length machine) (length result) 1) (readCode (r .answer))) (machineWords (r .machine)) (readCount (r .answer) ∷ []) machine result machine′ result′ code
+    pub read-fits : (machine′ result′ : List ℕ) (code : ℕ) → Ends (readCode (r .answer)) (laid machineSize (machineWords (r .machine)) machine) (laid 1 (readCount (r .answer) ∷ []) result) machine result machine′ result′ code
         → ReadCall bytes memory machine result memory′ machine′ result′ code
     read-fits machine′ result′ code g =
-        record { returned = rw (← read-same) (g .returned); words = rw f read-words; registers = rw (← read-same) (g .registers); numbers = rw (← read-same) (g .numbers) }
+        let f = machine-fits machine (length result) 1 lent e n in
+        let ends = ends-fitting _ f machineSize 1 _ _ _ machine result _ _ _ (machine-tests (length machine) (length result) 1 f) g in
+        record { returned = rw (← read-same) (ends .returned); words = rw f read-words; registers = rw (← read-same) (ends .registers); numbers = rw (← read-same) (ends .numbers) }
 
-module _ (memory machine out result : List ℕ) where
-  pub write-misfit : machineFits (length machine) (length result) 1 ≡ false → WriteCall memory machine out result out result (codeNumber misfit)
-  write-misfit f = record { returned = rw f; bytes = rw f; numbers = rw f }
+module _ (memory machine out result : List ℕ) (lent : MachineLent) (e : lent ≡ machineLent machine (length result) 1) where
+  pub write-misfit : not (lent .fits) ≡ true → WriteCall memory machine out result out result (codeNumber misfit)
+  write-misfit n = let f = machine-misfits machine (length result) 1 lent e n in record { returned = rw f; bytes = rw f; numbers = rw f }
 
-  module _ (f : machineFits (length machine) (length result) 1 ≡ true) (start : Machine) (s : start ≡ machineIn machine) (r : WriteResult) (out′ : List ℕ)
-      (writes : Writes memory start out out′ r) where
+  module _ (n : not (lent .fits) ≡ false) (r : WriteResult) (out′ : List ℕ)
+      (writes : Writes memory (lent .machine) out out′ r) where
     write-same : r ≡ written memory machine out
     unfolding written
-    write-same = rw s at (writes .result)
+    write-same = rw (machine-start machine (length result) 1 lent e n) at (writes .result)
 
     write-bytes : out′ ≡ bytesWritten memory machine out
     unfolding bytesWritten
-    write-bytes = rw s at (writes .bytes)
+    write-bytes = rw (machine-start machine (length result) 1 lent e n) at (writes .bytes)
 
     pub write-fits : (result′ : List ℕ) (code : ℕ) → WriteEnds r result result′ code → WriteCall memory machine out result out′ result′ code
     write-fits result′ code g =
-        let h = eq-eqb (length result) 1 (machine-lengths (length machine) (length result) 1 f .1) in
-        record { returned = rw (f, ← write-same) (rw h at (g .returned)); bytes = rw f write-bytes; numbers = rw (f, ← write-same) (rw h at (g .numbers)) }
+        let f = machine-fits machine (length result) 1 lent e n in
+        let h = machine-tests (length machine) (length result) 1 f .1 in
+        record { returned = rw (f, ← write-same) (g .returned); bytes = rw f write-bytes; numbers = rw (f, ← write-same) (rw h at (g .numbers)) }

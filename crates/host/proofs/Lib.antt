@@ -1,2 +1,1 @@
-mod ReadingLaws
 mod CallLaws

@@ -1,6 +1,5 @@
 -- What each exported call returns and leaves in what it is lent: the calls of the interpreter, the gate machine, the image reader and
 -- the image writer, on lent words. Document 01, "Machine and instruction word", "Clocks", "File run and journal", "Image".
--- Assumes nothing.
 use Prim.Native.Nat.{ℕ}
 use mathlib.Core.Path.{_≡_}
 use mathlib.Core.Bool.{cond}
@@ -18,8 +17,9 @@ use Rattle.image.specs.declared.WriteResult.{WriteResult}
 use Rattle.image.specs.Format.{imageOf}
 use Rattle.image.specs.Reading.{readOf}
 use Rattle.image.specs.Calls.{readResult, readWords, readCount, writeVerdict, writeResult, writeBytes}
-use Rattle.host_words.specs.Layout.{machineIn, machineWords, machineFits, stateIn, stateWords, stateFits}
-use Rattle.host_words.specs.Codes.{Code, codeNumber, codeIf, runCode, fileCode, gateCode, readCode, writeCode, writeSize, afterCall}
+use Rattle.host_reading.specs.Layout.{machineIn, machineFits, stateIn, stateFits}
+use Rattle.host_words.specs.Words.{machineWords, stateWords}
+use Rattle.host_ends.specs.Codes.{Code, codeNumber, codeIf, runCode, fileCode, gateCode, readCode, writeCode, writeSize, afterCall}
 
 -- ---- fm8502_run: a run of the interpreter
 

@@ -1,17 +1,13 @@
-// The exported calls, for C, Rust and Python: numbers and slices alone. The crate host_words has the layout of what is lent and the
-// codes that are returned; specs/Calls.antt says what each call leaves.
-mod reading;
-
-use host_words::MISFIT;
-use host_words::end_file_run;
-use host_words::end_gate_run;
-use host_words::end_read;
-use host_words::end_run;
-use host_words::end_write;
-use host_words::machine_fits;
-use host_words::state_fits;
-use reading::machine_in;
-use reading::state_in;
+// The exported calls, for C, Rust and Python: numbers and slices alone. The crate host_reading has the layout of what is lent, host_ends
+// the codes that are returned; specs/Calls.antt says what each call leaves.
+use host_ends::MISFIT;
+use host_ends::end_file_run;
+use host_ends::end_gate_run;
+use host_ends::end_read;
+use host_ends::end_run;
+use host_ends::end_write;
+use host_reading::machine_lent;
+use host_reading::state_lent;
 ghost use Rattle.host.specs.Calls.{RunCall, FileCall, GateCall, ReadCall, WriteCall};
 
 // A run of the interpreter. result: instructions that ran, clock total.
@@ -25,10 +21,11 @@ pub extern "C" fn fm8502_run(
 ) -> u32
     ensures { λ r. ⌜ RunCall (now (memory .entry)) (now (waits .entry)) (now (machine .entry)) count (now (result .entry)) (now (memory .exit)) (now (machine .exit)) (now (result .exit)) r ⌝ }
 {
-    if !machine_fits(machine.len(), result.len(), 2) {
+    let lent = machine_lent(&machine[..], result.len(), 2);
+    if !lent.fits {
         return MISFIT;
     }
-    let r = interpreter::run(&mut *memory, waits, machine_in(&machine[..]), count);
+    let r = interpreter::run(&mut *memory, waits, lent.machine, count);
     end_run(r, &mut *machine, &mut *result)
 }
 
@@ -43,10 +40,11 @@ pub extern "C" fn fm8502_file_run(
 ) -> u32
     ensures { λ r. ⌜ FileCall (now (memory .entry)) (now (journal .entry)) (now (machine .entry)) count (now (result .entry)) (now (memory .exit)) (now (journal .exit)) (now (machine .exit)) (now (result .exit)) r ⌝ }
 {
-    if !machine_fits(machine.len(), result.len(), 2) {
+    let lent = machine_lent(&machine[..], result.len(), 2);
+    if !lent.fits {
         return MISFIT;
     }
-    let r = interpreter::file_run(&mut *memory, &mut *journal, machine_in(&machine[..]), count);
+    let r = interpreter::file_run(&mut *memory, &mut *journal, lent.machine, count);
     end_file_run(r, &mut *machine, &mut *result)
 }
 
@@ -61,10 +59,11 @@ pub extern "C" fn fm8502_gate_run(
 ) -> u32
     ensures { λ r. ⌜ GateCall (now (memory .entry)) (now (waits .entry)) (now (state .entry)) clocks (now (result .entry)) (now (memory .exit)) (now (state .exit)) (now (result .exit)) r ⌝ }
 {
-    if !state_fits(&state[..], result.len()) {
+    let lent = state_lent(&state[..], result.len());
+    if !lent.fits {
         return MISFIT;
     }
-    let r = gate_machine::run(&mut *memory, waits, state_in(&state[..]), clocks);
+    let r = gate_machine::run(&mut *memory, waits, lent.state, clocks);
     let answer = r.answer;
     let after = r.state;
     end_gate_run(answer, after, r.finished, &mut *state, &mut *result)
@@ -80,14 +79,7 @@ pub extern "C" fn fm8502_clock(
 ) -> u32
     ensures { λ r. ⌜ GateCall (now (memory .entry)) (now (waits .entry)) (now (state .entry)) 1 (now (result .entry)) (now (memory .exit)) (now (state .exit)) (now (result .exit)) r ⌝ }
 {
-    if !state_fits(&state[..], result.len()) {
-        return MISFIT;
-    }
-    let r = gate_machine::clock(state_in(&state[..]), &mut *memory, waits);
-    let outcome = r.outcome;
-    let answer = outcome.answer;
-    let after = r.state;
-    end_gate_run(answer, after, outcome.finished, &mut *state, &mut *result)
+    fm8502_gate_run(&mut *memory, waits, &mut *state, 1, &mut *result)
 }
 
 // Reads an image: its words to the front of memory, its machine. result: the image's words.
@@ -100,7 +92,8 @@ pub extern "C" fn fm8502_image_read(
 ) -> u32
     ensures { λ r. ⌜ ReadCall (now (bytes .entry)) (now (memory .entry)) (now (machine .entry)) (now (result .entry)) (now (memory .exit)) (now (machine .exit)) (now (result .exit)) r ⌝ }
 {
-    if !machine_fits(machine.len(), result.len(), 1) {
+    let lent = machine_lent(&machine[..], result.len(), 1);
+    if !lent.fits {
         return MISFIT;
     }
     let r = image_reader::read(bytes, &mut *memory);
@@ -117,9 +110,10 @@ pub extern "C" fn fm8502_image_write(
 ) -> u32
     ensures { λ r. ⌜ WriteCall (now (memory .entry)) (now (machine .entry)) (now (out .entry)) (now (result .entry)) (now (out .exit)) (now (result .exit)) r ⌝ }
 {
-    if !machine_fits(machine.len(), result.len(), 1) {
+    let lent = machine_lent(machine, result.len(), 1);
+    if !lent.fits {
         return MISFIT;
     }
-    let r = image_writer::write(memory, machine_in(machine), &mut *out);
+    let r = image_writer::write(memory, lent.machine, &mut *out);
     end_write(r, &mut *result)
 }

@@ -1,8 +1,7 @@
--- What fills a list: a loop that copies another list of its length over it, and one or two stores.
--- Assumes nothing.
+-- What fills a lent slice: a loop that copies another list of its length over it, whole or in two parts.
 use Prim.Native.Nat.{ℕ, _+_, _-_, _≤_, _<_}
 use mathlib.Core.Path.{_≡_, refl, sym, ap, _∙_}
-use mathlib.Core.List.{List, [], _∷_, _++_, append-nil}
+use mathlib.Core.List.{List, _++_, append-nil}
 use native.Mathlib.Numerals.{add-one}
 use native.Mathlib.Omega.{arith}
 use lib.ListN.{length, take, drop, getD, set, length-set, length-append}
@@ -38,14 +37,3 @@ parts-copied k l a b h =
     ap (λ (t : List ℕ). t ++ (b ++ postOf k (length xs - k) xs)) (take-at a (drop k l) k h)
     ∙ ap (λ (t : List ℕ). a ++ (b ++ t)) (post-is k (length xs) xs within ∙ drop-length xs)
     ∙ ap (λ (t : List ℕ). a ++ t) (append-nil b)
-
-pub one-stored : (l : List ℕ) (x : ℕ) → length l ≡ 1 → set l 0 x ≡ x ∷ []
-one-stored [] x h = absurd (omega arith)
-one-stored (a ∷ []) x h = refl
-one-stored (a ∷ b ∷ l) x h = absurd (omega arith)
-
-pub two-stored : (l : List ℕ) (x y : ℕ) → length l ≡ 2 → set (set l 0 x) 1 y ≡ x ∷ y ∷ []
-two-stored [] x y h = absurd (omega arith)
-two-stored (a ∷ []) x y h = absurd (omega arith)
-two-stored (a ∷ b ∷ []) x y h = refl
-two-stored (a ∷ b ∷ c ∷ l) x y h = absurd (omega arith)

@@ -1,4 +1,3 @@
-mod LayoutLaws
 mod LentLaws
-mod CodeLaws
-pub mod FitLaws
+mod WordLaws
+pub mod LaidLaws

@@ -1,5 +1,4 @@
 -- The bench words on images hold: antt computes them.
--- Assumes nothing.
 use mathlib.Core.Path.{_≡_, refl}
 use mathlib.Core.List.{[], _∷_}
 use lib.ListN.{length}

@@ -1,5 +1,4 @@
 -- Whatever is left of an image once bytes are missing at its end is refused with 8: the proof of the law of `Laws`.
--- Assumes nothing.
 use Prim.Native.Nat.{ℕ, zero, suc, _+_, _*_, _-_, _^_, _≤_, _<_, min}
 use mathlib.Core.Path.{_≡_, refl, sym, ap, subst, _∙_}
 use mathlib.Core.Bool.{Bool, true, false}

@@ -1,5 +1,4 @@
 -- One field: what is written is read back, and what is read was written so.
--- Assumes nothing.
 use Prim.Native.Nat.{ℕ, suc, _+_, _≤_, _<_}
 use mathlib.Core.Path.{_≡_, refl, sym, ap, ap₂, _∙_}
 use mathlib.Core.Bool.{Bool, true}
@@ -73,7 +72,7 @@ pub record Taken (f : Field) (bytes : List ℕ) (next : List ℕ → List ℕ �
 
 module _ (f : Field) where
   -- what an accepted field shows
-  facts : (bytes : List ℕ) → fieldVerdict f bytes ≡ Accepted
+  pub facts : (bytes : List ℕ) → fieldVerdict f bytes ≡ Accepted
       → (3 ≤ length bytes) × (getD bytes 0 0 ≡ f .tag) × (number (take 2 (drop 1 bytes)) ≡ f .due) × (3 + f .due ≤ length bytes)
       × (f .rule (take (f .due) (drop 3 bytes)) ≡ Accepted)
   unfolding headerVerdict fieldVerdict

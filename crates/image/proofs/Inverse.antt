@@ -1,5 +1,4 @@
 -- What is written is read back, only what the writer can produce is read, and how long an image is: the proofs of `Laws`.
--- Assumes nothing.
 use Prim.Native.Nat.{ℕ, _+_, _*_, _^_, _≤_, _<_}
 use mathlib.Core.Path.{_≡_, refl, sym, ap, ap₂, _∙_}
 use mathlib.Core.Bool.{Bool, true}

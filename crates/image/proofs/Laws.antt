@@ -1,5 +1,4 @@
 -- The laws of images, each stated with nothing but the definitions of `specs/`.
--- Assumes nothing.
 use Prim.Native.Nat.{ℕ, _+_, _*_, _^_, _≤_, _<_}
 use mathlib.Core.Path.{_≡_}
 use mathlib.Core.Bool.{true}
@@ -19,6 +18,7 @@ use Rattle.image.specs.Reading.{loaded, refused, _▷_, readOf}
 use Rattle.image.specs.Calls.{Writes, Reads}
 use Rattle.image.proofs.Inverse
 use Rattle.image.proofs.Cuts
+use Rattle.image.proofs.Loaded
 use Rattle.image.proofs.MemoryLaws
 use Rattle.image.proofs.TwoCalls
 
@@ -37,6 +37,12 @@ pub onlyImages : (room version : ℕ) (machine : Machine) (memory bytes : List �
     → readOf bytes room ≡ loaded version machine memory
     → bytes ≡ imageOf version machine memory
 onlyImages = Inverse.onlyImages
+
+-- what is loaded is a memory that a run takes
+pub loadedFits : {version : ℕ} {machine : Machine} {memory : List ℕ} (bytes : List ℕ) (room : ℕ)
+    → readOf bytes room ≡ loaded version machine memory
+    → (0 < length memory) × (length memory ≤ 16_777_216)
+loadedFits = Loaded.loadedFits
 
 -- bytes that begin with an image: of 11, 13, 14 and 15 the first that applies is the answer, and if none does they load
 pub imageRead : (version : ℕ) (machine : Machine) (memory rest : List ℕ) (room : ℕ)

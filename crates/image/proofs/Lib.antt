@@ -7,6 +7,7 @@ pub mod Machines
 pub mod Stages
 pub mod Inverse
 pub mod Cuts
+pub mod Loaded
 pub mod TwoCalls
 pub mod Laws
 pub mod Stores

@@ -1,8 +1,7 @@
 -- A machine and the bytes of its registers and flags.
--- Assumes nothing.
 use Prim.Native.Nat.{ℕ, _^_}
 use mathlib.Core.Path.{_≡_, refl, sym, ap, _∙_}
-use mathlib.Core.Bool.{Bool, true, false, _&&_}
+use mathlib.Core.Bool.{Bool, true, false, _&&_, and-eq-true-iff}
 use mathlib.Core.List.{List, [], _∷_}
 use native.Mathlib.Omega.{arith}
 use lib.Dec.{eqb, leb}
@@ -44,11 +43,11 @@ byte-back b h = go (eqb b 1) refl
     go false e = omega (arith, leb-true b 1 h, eqb-false b 1 e)
 
 four-back : (a b c d : Bool) → (a && b && c && d) ≡ true → (a ≡ true) × (b ≡ true) × (c ≡ true) × (d ≡ true)
-four-back true true true true e = (refl, refl, refl, refl)
-four-back true true true false e = (cc, cc, cc, cc)
-four-back true true false d e = (cc, cc, cc, cc)
-four-back true false c d e = (cc, cc, cc, cc)
-four-back false b c d e = (cc, cc, cc, cc)
+four-back a b c d e =
+    let p = and-eq-true-iff (a && b && c) d .0 e in
+    let q = and-eq-true-iff (a && b) c .0 (p .0) in
+    let r = and-eq-true-iff a b .0 (q .0) in
+    (r .0, r .1, q .1, p .1)
 
 -- the flags that bytes hold, as bytes, are the bytes
 pub flags-back : (registers l : List ℕ) → length l ≡ 4 → flagsFit l ≡ true → flagBytes (machineOf registers l .flags) ≡ l

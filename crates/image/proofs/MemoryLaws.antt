@@ -1,5 +1,4 @@
 -- The fields of words: what is written is read back, and what is read was written so.
--- Assumes nothing.
 use Prim.Native.Nat.{ℕ, zero, suc, _+_, _*_, _-_, _^_, _≤_, _<_, min}
 use mathlib.Core.Path.{_≡_, refl, sym, ap, ap₂, _∙_}
 use mathlib.Core.List.{List, [], _++_, append-assoc, append-nil}
@@ -10,7 +9,7 @@ use lib.Seq.{take-at, drop-at, take-all}
 use Rattle.model.specs.declared.Machine.{Machine}
 use Rattle.model.specs.declared.Verdict.the-variants.{Accepted}
 use Rattle.image.specs.Bytes.{wordBytes, wordsIn, Below}
-use Rattle.image.specs.Format.{wordsField, wordsPerField, fieldBytes, fieldsFor, memoryFields}
+use Rattle.image.specs.Format.{wordsField, wordsPerField, fieldBytes, fieldsFor, spanOf, memoryFields}
 use Rattle.image.specs.Reading.{Outcome, loaded, readMemory}
 use Rattle.image.proofs.BytesLaws.{no-elements, below-take, below-drop, length-word-bytes, length-words, words-of-bytes, bytes-of-words}
 use Rattle.image.proofs.FieldLaws.{length-field, field-goes, field-taken}
@@ -27,6 +26,18 @@ lastField words h = (omega arith, omega arith)
 pub one-field-less : (words count : ℕ) → 0 < words → count ≡ min wordsPerField words → fieldsFor words ≡ suc (fieldsFor (words - count))
 unfolding fieldsFor
 one-field-less words count h e = omega arith
+
+-- past the header and the words of a field, the bytes of the words that are left begin
+pub span-step : (at words count : ℕ) → 0 < words → count ≡ min wordsPerField words → at + spanOf words ≡ at + 3 + 4 * count + spanOf (words - count)
+unfolding fieldsFor
+span-step at words count h e = omega arith
+
+-- the same in a turn of a loop over the fields, of which so many words are done
+pub span-turn : (at words from count : ℕ) → from < words → count ≡ min wordsPerField (words - from)
+    → at + 3 + 4 * count + spanOf (words - (from + count)) ≡ at + spanOf (words - from)
+span-turn at words from count h e =
+    let q : words - (from + count) ≡ words - from - count = omega arith in
+    ap (λ (n : ℕ). at + 3 + 4 * count + spanOf n) q ∙ sym (span-step at (words - from) count (omega arith) e)
 
 pub length-memory : (n : ℕ) (memory : List ℕ) → length memory ≤ 1024 * n → length (memoryFields n memory) ≡ 4 * length memory + 3 * n
 unfolding memoryFields

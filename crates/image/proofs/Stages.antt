@@ -1,5 +1,4 @@
 -- `readOf` in stages, last first: each is the reading from one field on.
--- Assumes nothing.
 use Prim.Native.Nat.{ℕ}
 use mathlib.Core.Path.{_≡_, refl}
 use mathlib.Core.List.{List}

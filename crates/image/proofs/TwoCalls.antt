@@ -1,20 +1,18 @@
 -- What the writer wrote, the reader reads back: the proof of the law of `Laws` on the two calls.
--- Assumes nothing.
 use Prim.Native.Nat.{ℕ, _^_, _≤_, _<_}
 use mathlib.Core.Path.{_≡_, refl, ap, ap₂, _∙_}
 use mathlib.Core.List.{List}
 use native.Mathlib.Omega.{arith}
-use lib.Dec.{leb, ltb}
+use lib.Dec.{leb}
 use lib.ListN.{length, take, drop}
 use lib.Seq.{take-at}
-use borrow.Author.Tests.{leb-true, ltb-true}
 use Rattle.model.specs.declared.Machine.{Machine}
-use Rattle.model.specs.declared.Refusal.the-variants.{NoWords, TooManyWords, ShortOutput}
+use Rattle.model.specs.declared.Refusal.the-variants.{ShortOutput}
 use Rattle.model.specs.declared.Verdict.{Verdict}
 use Rattle.model.specs.declared.Verdict.the-variants.{Accepted, Refused}
 use Rattle.model.specs.Refusals.{demand, memoryFits, mostWords}
 use Rattle.model.specs.Journal.{overlay}
-use Rattle.model.proofs.Verdicts.{demanded, both}
+use Rattle.model.proofs.Verdicts.{both}
 use Rattle.image.specs.declared.WriteResult.{WriteResult}
 use Rattle.image.specs.declared.ReadAnswer.{ReadAnswer}
 use Rattle.image.specs.declared.ReadResult.{ReadResult}
@@ -22,6 +20,7 @@ use Rattle.image.specs.Bytes.{Below}
 use Rattle.image.specs.Format.{imageOf}
 use Rattle.image.specs.Reading.{Outcome, loaded, readOf}
 use Rattle.image.specs.Calls.{writeVerdict, writeResult, writeBytes, Writes, readResult, readWords, Reads}
+use Rattle.image.proofs.Outcomes.{memory-bounds}
 use Rattle.image.proofs.Inverse.{roundTrip}
 
 written-accepted : (v : Verdict) (image : List ℕ) (n : ℕ) → WriteResult.Written n ≡ writeResult v image → (v ≡ Accepted) × (n ≡ length image)
@@ -30,10 +29,7 @@ written-accepted (Refused why) image n e = (cc, cc)
 
 write-bounds : (memory image out : List ℕ) → writeVerdict memory image out ≡ Accepted → (0 < length memory) × (length memory ≤ mostWords)
 unfolding writeVerdict
-write-bounds memory image out e =
-    let p = both (memoryFits memory) (demand (leb (length image) (length out)) ShortOutput) e in
-    let q = both (demand (ltb 0 (length memory)) NoWords) (demand (leb (length memory) mostWords) TooManyWords) (p .0) in
-    (ltb-true _ _ (demanded _ NoWords (q .0)), leb-true _ _ (demanded _ TooManyWords (q .1)))
+write-bounds memory image out e = memory-bounds memory (both (memoryFits memory) (demand (leb (length image) (length out)) ShortOutput) e .0)
 
 pub readBack : (memory : List ℕ) (machine : Machine) (out out′ : List ℕ) (n : ℕ) (room room′ : List ℕ) (r : ReadResult)
     → length (machine .regs) ≡ 8 → Below (2 ^ 32) (machine .regs) → Below (2 ^ 32) memory

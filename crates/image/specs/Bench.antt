@@ -1,5 +1,4 @@
--- The bench words on images, document 01, "Bench words": M=1: 63 bytes load; 62 give 8; 64 give 15.
--- Assumes nothing.
+-- The worked images of one word: 63 bytes load, 62 give 8, 64 give 15. Document 01, "Bench words".
 use Prim.Native.Nat.{ℕ}
 use mathlib.Core.List.{List, [], _∷_, _++_}
 use lib.ListN.{take}

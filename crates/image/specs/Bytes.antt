@@ -1,5 +1,4 @@
--- Numbers and words as bytes, lowest byte first: "all little-endian" of document 01, "Image".
--- Assumes nothing.
+-- Numbers and words as bytes, lowest byte first. Document 01, "Image" ("all little-endian").
 use Prim.Native.Nat.{ℕ, zero, suc, _+_, _*_, _/_, _%_, _<_}
 use mathlib.Core.List.{List, [], _∷_, _++_}
 use lib.ListN.{take, drop}

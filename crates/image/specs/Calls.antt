@@ -1,6 +1,5 @@
--- The writer and the reader as calls: what is refused (document 01, "Why a call is turned down", 1, 2 and 7 to 15), what is
--- answered, and every lent byte and word afterwards.
--- Assumes nothing.
+-- The writer and the reader as calls: what is refused (1, 2 and 7 to 15), what is answered, and every lent byte and word
+-- afterwards. Document 01, "Image" and "Why a call is turned down".
 use Prim.Native.Nat.{ℕ}
 use mathlib.Core.Path.{_≡_}
 use mathlib.Core.Bool.{false}

@@ -1,5 +1,5 @@
--- What an image is: document 01, "Image", and of "Why a call is turned down" the values that 11 to 14 speak of.
--- Assumes nothing.
+-- What an image is: its fields, what their values must be (11 to 14), and its bytes. Document 01, "Image" and "Why a call is
+-- turned down".
 use Prim.Native.Nat.{ℕ, zero, suc, _+_, _*_, _/_}
 use mathlib.Core.Bool.{Bool, _&&_}
 use mathlib.Core.List.{List, [], _∷_, _++_}
@@ -73,6 +73,10 @@ wordsPerField = 1024
 -- how many fields so many words take
 unfoldable pub fieldsFor : ℕ → ℕ
 fieldsFor words = (words + 1023) / wordsPerField
+
+-- how many bytes so many words take, with the headers of their fields
+abbrev pub spanOf : ℕ → ℕ
+spanOf words = 4 * words + 3 * fieldsFor words
 
 -- so many fields of words, the last with what remains
 unfoldable pub memoryFields : ℕ → List ℕ → List ℕ

@@ -1,7 +1,6 @@
--- Reading an image, document 01, "Image" and "Why a call is turned down", 8 to 15: the fields are taken one by one, and the
--- first that is not in order is the answer.
--- Assumes nothing.
-use Prim.Native.Nat.{ℕ, zero, suc, _+_, _*_, _-_, min}
+-- Reading an image: the fields are taken one by one, and the first that is not in order is the answer (8 to 15). Document 01,
+-- "Image" and "Why a call is turned down".
+use Prim.Native.Nat.{ℕ, zero, suc, _+_, _-_, min}
 use mathlib.Core.List.{List, [], _++_}
 use lib.Dec.{eqb, leb}
 use lib.ListN.{length, getD, take, drop}

@@ -6,7 +6,6 @@ use image::WriteResult;
 use libc::STDOUT_FILENO;
 use model::Flags;
 use model::Machine;
-use model::Refusal;
 use refusals::refusal_number;
 
 fn machine() -> Machine {
@@ -68,13 +67,13 @@ fn column(n: u64) {
     io::print_decimal(STDOUT_FILENO, n);
 }
 
-fn show(name: &[u8], words: usize, bytes: usize, number: u64, right: bool, sum: u32) {
+fn show(name: &[u8], words: usize, size: usize, number: u64, right: bool, bytes: &[u8]) {
     io::write_all(STDOUT_FILENO, name);
     column(words as u64);
-    column(bytes as u64);
+    column(size as u64);
     column(number);
     column(right as u64);
-    column(sum as u64);
+    column(checksum(bytes) as u64);
     io::write_all(STDOUT_FILENO, b"\n");
 }
 
@@ -90,13 +89,6 @@ fn write_number(result: WriteResult) -> u64 {
     match result {
         WriteResult::Written(_) => 0,
         WriteResult::Refused(why) => refusal_number(why) as u64,
-    }
-}
-
-fn read_number(answer: ReadAnswer) -> u64 {
-    match answer {
-        ReadAnswer::Loaded(_) => 0,
-        ReadAnswer::Refused(why) => refusal_number(why) as u64,
     }
 }
 
@@ -121,7 +113,10 @@ fn read_part(bytes: &[u8], size: usize, memory: &mut [u32], room: usize) -> u64 
     }
     let result = image_reader::read(&bytes[0..size], &mut memory[0..room]);
     let answer = result.answer;
-    read_number(answer)
+    match answer {
+        ReadAnswer::Loaded(_) => 0,
+        ReadAnswer::Refused(why) => refusal_number(why) as u64,
+    }
 }
 
 fn put(bytes: &mut [u8], at: usize, byte: u8) {
@@ -136,14 +131,8 @@ fn trip(words: usize, memory: &mut [u32], bytes: &mut [u8], back: &mut [u32]) {
     let room = bytes.len();
     let size = size_of(write_part(memory, words, bytes, room));
     let number = read_part(bytes, size, back, words);
-    show(
-        b"words",
-        words,
-        size,
-        number,
-        equal(memory, back),
-        checksum(bytes),
-    );
+    let right = equal(memory, back);
+    show(b"words", words, size, number, right, bytes);
 }
 
 fn round_trip(words: usize) {
@@ -166,14 +155,8 @@ fn change(
     write_part(&[0x0001_3C21], 1, bytes, 63);
     put(bytes, at, byte);
     let number = read_part(bytes, size, memory, room);
-    show(
-        name,
-        room,
-        size,
-        number,
-        equal(memory, &[9, 9]),
-        checksum(bytes),
-    );
+    let right = equal(memory, &[9, 9]);
+    show(name, room, size, number, right, bytes);
 }
 
 fn damaged(name: &[u8], at: usize, byte: u8, size: usize, room: usize) {
@@ -186,14 +169,8 @@ fn damaged(name: &[u8], at: usize, byte: u8, size: usize, room: usize) {
 fn unwritten(words: usize, room: usize) {
     let mut bytes = [9u8; 64];
     let number = write_number(write_part(&[7, 7], words, &mut bytes, room));
-    show(
-        b"write",
-        words,
-        room,
-        number,
-        check::same(&bytes, &[9; 64]),
-        checksum(&bytes),
-    );
+    let right = check::same(&bytes, &[9; 64]);
+    show(b"write", words, room, number, right, &bytes);
 }
 
 fn main() {

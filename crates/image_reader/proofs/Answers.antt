@@ -1,8 +1,7 @@
 -- What the reader answers, from what its two passes did.
--- Assumes nothing.
 use Prim.Native.Nat.{ℕ, _+_, _≤_}
 use mathlib.Core.Path.{_≡_, refl, sym, ap, _∙_}
-use mathlib.Core.Bool.{Bool, true, false, _&&_}
+use mathlib.Core.Bool.{and-eq-true-iff}
 use mathlib.Core.List.{List}
 use native.Mathlib.Omega.{arith}
 use lib.Dec.{eqb, leb}
@@ -17,17 +16,13 @@ use Rattle.model.specs.declared.Verdict.the-variants.{Accepted, Refused}
 use Rattle.model.specs.Refusals.{demand, _then_, mostWords}
 use Rattle.model.proofs.Verdicts.{demanded, both}
 use Rattle.image.specs.declared.ReadAnswer.{ReadAnswer}
-use Rattle.image.specs.Format.{versionField, registersField, flagsField, countField, endField, countFits, fieldsFor}
+use Rattle.image.specs.Format.{versionField, registersField, flagsField, countField, endField, countFits, fieldsFor, spanOf}
 use Rattle.image.specs.Reading.{Outcome, loaded, refused, _▷_, headerVerdict, fieldVerdict, readOf}
 use Rattle.image.specs.Calls.{clearedMachine, readResult, readWords, outcomeNumber, outcomeCount, readNumber, readCount, Reads}
 use Rattle.image.proofs.MemoryLaws.{fields-enough}
 use Rattle.image.proofs.Stores.{overlaid}
-use Rattle.image_reader.specs.Layout.{versionIn, countIn, machineIn, spanOf, memoryIn, wordsOf, headVerdict, memoryVerdict, endVerdict, tailVerdict, imageVerdict}
+use Rattle.image_reader.specs.Layout.{versionIn, countIn, machineIn, memoryIn, wordsOf, headVerdict, memoryVerdict, endVerdict, tailVerdict, imageVerdict}
 use Rattle.image_reader.proofs.Passes.{passes, length-memory-in}
-
-second : (a b : Bool) → (a && b) ≡ true → b ≡ true
-second true b e = e
-second false b e = cc
 
 -- what an accepted head shows of the word count
 pub head-accepted : (bytes : List ℕ) (room : ℕ) → headVerdict bytes room ≡ Accepted → (countIn bytes ≤ mostWords) × (countIn bytes ≤ room)
@@ -40,7 +35,7 @@ head-accepted bytes room e =
     let e₄ = both (headerVerdict 4 4 (drop 46 bytes)) (countField room .rule _) e₃ .1 in
     let e₅ : (demand (countFits M) BadWordCount then demand (leb M room) ShortMemory) ≡ Accepted = rw drop-drop at e₄ in
     let e₆ = both (demand (countFits M) BadWordCount) (demand (leb M room) ShortMemory) e₅ in
-    (leb-true _ _ (second (leb 1 M) _ (demanded _ BadWordCount (e₆ .0))), leb-true _ _ (demanded _ ShortMemory (e₆ .1)))
+    (leb-true _ _ (and-eq-true-iff (leb 1 M) (leb M mostWords) .0 (demanded _ BadWordCount (e₆ .0)) .1), leb-true _ _ (demanded _ ShortMemory (e₆ .1)))
 
 -- the verdict on the whole, by the verdict on the head
 pub refused-head : (bytes : List ℕ) (room : ℕ) {why : Refusal} → Refused why ≡ headVerdict bytes room → Refused why ≡ imageVerdict bytes room

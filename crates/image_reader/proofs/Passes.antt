@@ -1,5 +1,4 @@
 -- The two passes are `readOf`: a verdict on the whole, then what lies at each place.
--- Assumes nothing.
 use Prim.Native.Nat.{ℕ, zero, suc, _+_, _*_, _-_, _≤_, min}
 use mathlib.Core.Path.{_≡_, refl, sym, ap, ap₂, _∙_}
 use mathlib.Core.List.{List, [], _++_}
@@ -12,13 +11,13 @@ use Rattle.model.specs.declared.Refusal.the-variants.{TrailingBytes}
 use Rattle.model.specs.declared.Verdict.{Verdict}
 use Rattle.model.specs.Refusals.{demand, _then_}
 use Rattle.image.specs.Bytes.{number, wordsIn}
-use Rattle.image.specs.Format.{Field, versionField, registersField, flagsField, countField, wordsField, endField, wordsPerField, fieldsFor}
+use Rattle.image.specs.Format.{Field, versionField, registersField, flagsField, countField, wordsField, endField, wordsPerField, fieldsFor, spanOf}
 use Rattle.image.specs.Reading.{Outcome, loaded, _▷_, fieldVerdict, readField, readMemory, readOf, machineOf}
 use Rattle.image.proofs.BytesLaws.{length-words}
 use Rattle.image.proofs.Outcomes.{joined, then-assoc}
 use Rattle.image.proofs.MemoryLaws.{fields-enough}
 use Rattle.image.proofs.Stages.{endFrom, memoryFrom, countFrom, flagsFrom, registersFrom, in-stages}
-use Rattle.image_reader.specs.Layout.{versionIn, countIn, machineIn, spanOf, memoryIn, wordsOf, headVerdict, memoryVerdict, endVerdict, tailVerdict, imageVerdict}
+use Rattle.image_reader.specs.Layout.{versionIn, countIn, machineIn, memoryIn, wordsOf, headVerdict, memoryVerdict, endVerdict, tailVerdict, imageVerdict}
 use Rattle.image_reader.proofs.Places.{words-take, machine-take}
 
 -- a field that starts at a place, and what follows it

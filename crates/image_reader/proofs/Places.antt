@@ -1,5 +1,4 @@
 -- Bytes, words and flags read at a place, past the end too.
--- Assumes nothing.
 use Prim.Native.Nat.{ℕ, zero, suc, _+_, _*_, _<_}
 use mathlib.Core.Path.{_≡_, refl, sym, ap, ap₂, _∙_}
 use mathlib.Core.List.{List, [], _∷_}
@@ -39,6 +38,9 @@ pub four-bytes : (bytes : List ℕ) (at : ℕ) → number (take 4 (drop at bytes
 four-bytes bytes at =
     rw (add-one, add-two, add-three)
     (omega (arith, number-step 3 at bytes, number-step 2 (suc at) bytes, number-step 1 (suc (suc at)) bytes, one-byte bytes (suc (suc (suc at)))))
+
+pub two-pairs : (bytes : List ℕ) (at : ℕ) → number (take 4 (drop at bytes)) ≡ number (take 2 (drop at bytes)) + 65_536 * number (take 2 (drop (at + 2) bytes))
+two-pairs bytes at = rw add-two (omega (arith, number-step 3 at bytes, number-step 2 (suc at) bytes, number-step 1 at bytes, one-byte bytes (suc at)))
 
 -- ---- words
 

@@ -1,30 +1,29 @@
 -- A turn of each pass over the fields of words.
--- Assumes nothing.
 use Prim.Native.Nat.{ℕ, suc, _+_, _*_, _-_, _<_, min}
 use mathlib.Core.Path.{_≡_, refl, sym, ap, ap₂, _∙_}
+use mathlib.Core.Bool.{Bool}
 use mathlib.Core.List.{List, _++_}
 use native.Mathlib.Nat.{add-zero}
 use native.Mathlib.Omega.{arith}
-use lib.ListN.{drop}
+use lib.Dec.{leb}
+use lib.ListN.{length, drop}
 use lib.Seq.{drop-drop}
 use Rattle.model.specs.declared.Refusal.{Refusal}
+use Rattle.model.specs.declared.Refusal.the-variants.{TrailingBytes}
 use Rattle.model.specs.declared.Verdict.{Verdict}
 use Rattle.model.specs.declared.Verdict.the-variants.{Accepted, Refused}
-use Rattle.model.specs.Refusals.{_then_}
+use Rattle.model.specs.Refusals.{demand, _then_}
 use Rattle.image.specs.Bytes.{wordsIn}
-use Rattle.image.specs.Format.{wordsField, wordsPerField, fieldsFor}
+use Rattle.image.specs.Format.{wordsField, endField, wordsPerField, fieldsFor, spanOf}
 use Rattle.image.specs.Reading.{headerVerdict, fieldVerdict}
 use Rattle.image.proofs.Outcomes.{then-assoc}
-use Rattle.image.proofs.MemoryLaws.{one-field-less}
-use Rattle.image_reader.specs.Layout.{spanOf, memoryIn, memoryVerdict, endVerdict, tailVerdict}
-use Rattle.image_reader.proofs.Headers.{without-rule}
+use Rattle.image.proofs.MemoryLaws.{one-field-less, span-step}
+use Rattle.image_reader.specs.Layout.{memoryIn, memoryVerdict, endVerdict, tailVerdict}
+use Rattle.image_reader.proofs.Headers.{without-rule, nothing-follows}
 
 module _ (left at count : ℕ) (bytes : List ℕ) (h : 0 < left) (e : count ≡ min wordsPerField left) where
   fields : fieldsFor left ≡ suc (fieldsFor (left - count))
   fields = one-field-less left count h e
-
-  pub span-step : at + spanOf left ≡ at + 3 + 4 * count + spanOf (left - count)
-  span-step = let f : fieldsFor left ≡ suc (fieldsFor (left - count)) = fields in omega arith
 
   fewer : left - wordsPerField ≡ left - count
   fewer = omega arith
@@ -37,7 +36,7 @@ module _ (left at count : ℕ) (bytes : List ℕ) (h : 0 < left) (e : count ≡ 
   tail-step : tailVerdict left at bytes ≡ (headerVerdict 5 (4 * count) (drop at bytes) then tailVerdict (left - count) (at + 3 + 4 * count) bytes)
   unfolding tailVerdict memoryVerdict
   tail-step =
-      ap₂ (λ (n m : ℕ). memoryVerdict n left (drop at bytes) then endVerdict (drop m bytes)) fields span-step
+      ap₂ (λ (n m : ℕ). memoryVerdict n left (drop at bytes) then endVerdict (drop m bytes)) fields (span-step at left count h e)
       ∙ then-assoc (fieldVerdict (wordsField (min wordsPerField left)) (drop at bytes)) _ _
       ∙ (λ i.
       fieldVerdict (wordsField (sym e i)) (drop at bytes)
@@ -63,7 +62,13 @@ module _ (left at count : ℕ) (bytes : List ℕ) (h : 0 < left) (e : count ≡ 
       ap (λ (n : ℕ). memoryIn n left (drop at bytes)) fields
       ∙ (λ i. wordsIn (sym e i) (drop-drop 3 at bytes i) ++ memoryIn (fieldsFor (left - count)) (fewer i) (rest i))
 
--- no words are left
-pub tail-end : (at : ℕ) (bytes : List ℕ) → tailVerdict 0 at bytes ≡ endVerdict (drop at bytes)
-unfolding tailVerdict memoryVerdict fieldsFor
-tail-end at bytes = ap (λ (n : ℕ). endVerdict (drop n bytes)) (add-zero at)
+-- no words are left: what the code tests of the end
+pub tail-end : (left at : ℕ) (bytes : List ℕ) {header last both whole : Verdict} → left ≡ 0 → both ≡ (header then last) → header ≡ headerVerdict 0xFF 0 (drop at bytes)
+    → last ≡ demand (leb (length bytes) (at + 3)) TrailingBytes → tailVerdict left at bytes ≡ whole → both ≡ whole
+unfolding tailVerdict memoryVerdict fieldsFor endVerdict
+tail-end left at bytes z b h l e =
+    b
+    ∙ ap₂ (λ (x y : Verdict). x then y) (h ∙ without-rule endField (drop at bytes) (λ value. refl)) (l ∙ ap (λ (t : Bool). demand t TrailingBytes) (nothing-follows bytes at))
+    ∙ ap (λ (n : ℕ). endVerdict (drop n bytes)) (sym (add-zero at))
+    ∙ ap (λ (n : ℕ). tailVerdict n at bytes) (sym z)
+    ∙ e

@@ -1,5 +1,5 @@
--- Where things lie in an image: what the reader's two passes work out. `proofs/Passes` shows that this is `readOf`.
--- Assumes nothing.
+-- Where things lie in an image, as the reader's two passes work it out; `proofs/Passes` shows that this is `readOf`. Document 01,
+-- "Image".
 use Prim.Native.Nat.{ℕ, zero, suc, _+_, _*_, _-_, _<_, min}
 use mathlib.Core.Path.{_≡_}
 use mathlib.Core.List.{List, [], _++_}
@@ -11,13 +11,18 @@ use Rattle.model.specs.declared.Verdict.{Verdict}
 use Rattle.model.specs.declared.Verdict.the-variants.{Accepted}
 use Rattle.model.specs.Refusals.{demand, _then_}
 use Rattle.image.specs.Bytes.{number, wordsIn}
-use Rattle.image.specs.Format.{versionField, registersField, flagsField, countField, wordsField, endField, wordsPerField, fieldsFor}
+use Rattle.image.specs.Format.{versionField, registersField, flagsField, countField, wordsField, endField, wordsPerField, fieldsFor, spanOf}
 use Rattle.image.specs.Reading.{fieldVerdict, machineOf}
 
 -- a byte of a slice, 0 past its end
 pub record ByteAt (bytes : List ℕ) (at r : ℕ) : Type 0 where
   pub is : r ≡ getD bytes at 0
   pub small : r < 256
+
+-- two bytes as a number, each 0 past the end
+pub record PairAt (bytes : List ℕ) (at r : ℕ) : Type 0 where
+  pub is : r ≡ number (take 2 (drop at bytes))
+  pub small : r < 65_536
 
 -- ---- what is there
 
@@ -30,10 +35,6 @@ machineIn bytes = machineOf (drop 7 bytes) (drop 42 bytes)
 -- M
 abbrev pub countIn : List ℕ → ℕ
 countIn bytes = number (take 4 (drop 49 bytes))
-
--- the bytes of so many words and their headers
-abbrev pub spanOf : ℕ → ℕ
-spanOf words = 4 * words + 3 * fieldsFor words
 
 unfoldable pub memoryIn : (fields words : ℕ) → List ℕ → List ℕ
 memoryIn zero words bytes = []

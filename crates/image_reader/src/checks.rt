@@ -1,39 +1,20 @@
 // The first pass: whether the bytes are an image that the memory can hold.
 use super::bytes::byte_at;
 use super::bytes::pair_at;
-use super::bytes::word_at;
 use image::words_in_field;
 use model::Refusal;
 use model::Verdict;
+use refusals::demand;
+use refusals::then;
 ghost use mathlib.Core.Path.{_≡_};
 ghost use Prim.Native.Nat.{_+_, _^_, _≤_, _<_};
 ghost use lib.ListN.{drop};
-ghost use Rattle.model.specs.Refusals.{demand, _then_, mostWords};
-ghost use Rattle.image.specs.Format.{versionField, flagsField, countField, flagsFit};
+ghost use Rattle.model.specs.Refusals.{mostWords};
+ghost use Rattle.image.specs.Format.{versionField, flagsField, countField};
 ghost use Rattle.image.specs.Reading.{headerVerdict, fieldVerdict};
-ghost use Rattle.image_reader.specs.Layout.{countIn, headVerdict, endVerdict, tailVerdict, imageVerdict};
+ghost use Rattle.image_reader.specs.Layout.{countIn, headVerdict, tailVerdict, imageVerdict};
 
 const MOST_WORDS: u32 = 16_777_216;
-
-fn demand_that(holds: bool, why: Refusal) -> Verdict
-    ensures { λ r. ⌜ r ≡ demand holds why ⌝ }
-{
-    if holds {
-        Verdict::Accepted
-    } else {
-        Verdict::Refused(why)
-    }
-}
-
-// The first refusal of two verdicts.
-fn first(a: Verdict, b: Verdict) -> Verdict
-    ensures { λ r. ⌜ r ≡ (a then b) ⌝ }
-{
-    match a {
-        Verdict::Accepted => b,
-        Verdict::Refused(_) => a,
-    }
-}
 
 // A field from a place on, but for its value: header cut, tag, length, value cut.
 fn header_verdict(bytes: &[u8], at: usize, tag: u32, due: u32) -> Verdict
@@ -61,30 +42,25 @@ fn version_verdict(bytes: &[u8]) -> Verdict
 {
     let header = header_verdict(bytes, 0, 1, 1);
     let known = byte_at(bytes, 3) == 1;
-    first(header, demand_that(known, Refusal::WrongVersion))
-}
-
-fn flags_fit(bytes: &[u8]) -> bool
-    ensures { λ r. ⌜ r ≡ flagsFit (drop 42 (now (bytes .entry))) ⌝ }
-{
-    let c = byte_at(bytes, 42);
-    let v = byte_at(bytes, 43);
-    let n = byte_at(bytes, 44);
-    let z = byte_at(bytes, 45);
-    (c <= 1) & (v <= 1) & (n <= 1) & (z <= 1)
+    then(header, demand(known, Refusal::WrongVersion))
 }
 
 fn flags_verdict(bytes: &[u8]) -> Verdict
     ensures { λ r. ⌜ r ≡ fieldVerdict flagsField (drop 39 (now (bytes .entry))) ⌝ }
 {
     let header = header_verdict(bytes, 39, 3, 4);
-    first(header, demand_that(flags_fit(bytes), Refusal::BadFlag))
+    let c = byte_at(bytes, 42);
+    let v = byte_at(bytes, 43);
+    let n = byte_at(bytes, 44);
+    let z = byte_at(bytes, 45);
+    let known = (c <= 1) & (v <= 1) & (n <= 1) & (z <= 1);
+    then(header, demand(known, Refusal::BadFlag))
 }
 
 pub fn word_count(bytes: &[u8]) -> u32
     ensures { λ r. ⌜ r ≡ countIn (now (bytes .entry)) ⌝ }
 {
-    word_at(bytes, 49)
+    pair_at(bytes, 49) + 65_536 * pair_at(bytes, 51)
 }
 
 fn count_verdict(bytes: &[u8], room: usize) -> Verdict
@@ -94,11 +70,11 @@ fn count_verdict(bytes: &[u8], room: usize) -> Verdict
     let words = word_count(bytes);
     let possible = (1 <= words) & (words <= MOST_WORDS);
     let held = words as usize <= room;
-    let value = first(
-        demand_that(possible, Refusal::BadWordCount),
-        demand_that(held, Refusal::ShortMemory),
+    let value = then(
+        demand(possible, Refusal::BadWordCount),
+        demand(held, Refusal::ShortMemory),
     );
-    first(header, value)
+    then(header, value)
 }
 
 // The version, the registers, the flags and the word count.
@@ -109,20 +85,10 @@ fn head_verdict(bytes: &[u8], room: usize) -> Verdict
     let registers = header_verdict(bytes, 4, 2, 32);
     let flags = flags_verdict(bytes);
     let count = count_verdict(bytes, room);
-    first(version, first(registers, first(flags, count)))
+    then(version, then(registers, then(flags, count)))
 }
 
-// The end field, with nothing after it.
-fn end_verdict(bytes: &[u8], at: usize) -> Verdict
-    requires { ⌜ at + 3 < 2 ^ 64 ⌝ }
-    ensures { λ r. ⌜ r ≡ endVerdict (drop at (now (bytes .entry))) ⌝ }
-{
-    let header = header_verdict(bytes, at, 255, 0);
-    let last = bytes.len() <= at + 3;
-    first(header, demand_that(last, Refusal::TrailingBytes))
-}
-
-// The fields of words, from byte 53 on, and the end.
+// The fields of words, from byte 53 on, and the end field, with nothing after it.
 fn tail_verdict(bytes: &[u8], words: usize) -> Verdict
     requires { ⌜ words ≤ mostWords ⌝ }
     ensures { λ r. ⌜ r ≡ tailVerdict words 53 (now (bytes .entry)) ⌝ }
@@ -140,7 +106,9 @@ fn tail_verdict(bytes: &[u8], words: usize) -> Verdict
             }
         }
     }
-    end_verdict(bytes, at)
+    let end = header_verdict(bytes, at, 255, 0);
+    let last = bytes.len() <= at + 3;
+    then(end, demand(last, Refusal::TrailingBytes))
 }
 
 pub fn image_verdict(bytes: &[u8], room: usize) -> Verdict

@@ -8,9 +8,9 @@ ghost use mathlib.Core.Path.{_≡_};
 ghost use Prim.Native.Nat.{_+_, _≤_};
 ghost use lib.ListN.{length, drop};
 ghost use lib.Seq.{sets};
-ghost use Rattle.image.specs.Format.{fieldsFor};
+ghost use Rattle.image.specs.Format.{fieldsFor, spanOf};
 ghost use Rattle.image.specs.Calls.{clearedMachine};
-ghost use Rattle.image_reader.specs.Layout.{machineIn, spanOf, memoryIn};
+ghost use Rattle.image_reader.specs.Layout.{machineIn, memoryIn};
 
 pub fn cleared_machine() -> Machine
     ensures { λ r. ⌜ r ≡ clearedMachine ⌝ }

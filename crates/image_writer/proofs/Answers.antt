@@ -1,19 +1,18 @@
 -- What the writer answers, by what it tests.
--- Assumes nothing.
 use Prim.Native.Nat.{ℕ, _≤_, _<_}
-use mathlib.Core.Path.{_≡_, refl, sym, ap, _∙_}
+use mathlib.Core.Path.{_≡_, refl, sym, ap, ap₂, _∙_}
 use mathlib.Core.Bool.{Bool, true, false}
 use mathlib.Core.List.{List}
-use native.Mathlib.Omega.{arith}
-use lib.Dec.{leb, ltb}
+use lib.Dec.{leb}
 use lib.ListN.{length}
 use lib.Seq.{sets}
-use borrow.Author.Tests.{le-leb, lt-leb, lt-ltb, le-ltb}
+use borrow.Author.Tests.{le-leb, lt-leb}
 use Rattle.model.specs.declared.Machine.{Machine}
-use Rattle.model.specs.declared.Refusal.the-variants.{NoWords, TooManyWords, ShortOutput}
+use Rattle.model.specs.declared.Refusal.{Refusal}
+use Rattle.model.specs.declared.Refusal.the-variants.{ShortOutput}
 use Rattle.model.specs.declared.Verdict.{Verdict}
 use Rattle.model.specs.declared.Verdict.the-variants.{Accepted, Refused}
-use Rattle.model.specs.Refusals.{demand, _then_, mostWords, verdictNumber}
+use Rattle.model.specs.Refusals.{demand, _then_, memoryFits, verdictNumber}
 use Rattle.image.specs.declared.WriteResult.{WriteResult}
 use Rattle.image.specs.Format.{imageOf}
 use Rattle.image.specs.Calls.{writeVerdict, writeResult, writeBytes, writeNumber, Writes}
@@ -36,27 +35,19 @@ module _ (memory : List ℕ) (machine : Machine) (out : List ℕ) where
         number = numbered v ∙ ap verdictNumber e;
       }
 
-  -- the verdict with the three tests as they come out
-  tests : (a b c : Bool) → ltb 0 (length memory) ≡ a → leb (length memory) mostWords ≡ b → leb (length image) (length out) ≡ c
-      → ((demand a NoWords then demand b TooManyWords) then demand c ShortOutput) ≡ writeVerdict memory image out
+  -- the verdict with the two tests as they come out
+  tests : (v : Verdict) (t : Bool) → v ≡ memoryFits memory → leb (length image) (length out) ≡ t → (v then demand t ShortOutput) ≡ writeVerdict memory image out
   unfolding writeVerdict
-  tests a b c p q r = λ i. (demand (sym p i) NoWords then demand (sym q i) TooManyWords) then demand (sym r i) ShortOutput
+  tests v t p q = ap₂ (λ (x : Verdict) (b : Bool). x then demand b ShortOutput) p (sym q)
 
-  pub no-words : length memory ≡ 0 → Writes memory machine out out (WriteResult.Refused NoWords)
-  no-words h = let k : length memory ≤ 0 = omega arith in judged (Refused NoWords) out (tests false _ _ (le-ltb _ _ k) refl refl) refl
+  pub refused-memory : {why : Refusal} → Refused why ≡ memoryFits memory → Writes memory machine out out (WriteResult.Refused why)
+  refused-memory {why} e = judged (Refused why) out (tests (Refused why) _ e refl) refl
 
-  module _ (some : length memory ≡ 0 → ⊥) where
-    first : ltb 0 (length memory) ≡ true
-    first = let k : 0 < length memory = omega (arith, some) in lt-ltb _ _ k
+  module _ (fits : Accepted ≡ memoryFits memory) where
+    pub short-output : length out < length image → Writes memory machine out out (WriteResult.Refused ShortOutput)
+    short-output s = judged (Refused ShortOutput) out (tests Accepted false fits (lt-leb _ _ s)) refl
 
-    pub too-many-words : mostWords < length memory → Writes memory machine out out (WriteResult.Refused TooManyWords)
-    too-many-words h = judged (Refused TooManyWords) out (tests true false _ first (lt-leb _ _ h) refl) refl
-
-    pub short-output : length memory ≤ mostWords → length out < length image → Writes memory machine out out (WriteResult.Refused ShortOutput)
-    short-output h s = judged (Refused ShortOutput) out (tests true true false first (le-leb _ _ h) (lt-leb _ _ s)) refl
-
-    pub written : (out′ : List ℕ) (n : ℕ) → length memory ≤ mostWords → length image ≤ length out
-        → out′ ≡ sets out 0 image → n ≡ length image → Writes memory machine out out′ (WriteResult.Written n)
-    written out′ n h s p e =
-        let r = judged Accepted out′ (tests true true true first (le-leb _ _ h) (le-leb _ _ s)) (p ∙ overlaid out image s) in
+    pub written : (out′ : List ℕ) (n : ℕ) → length image ≤ length out → out′ ≡ sets out 0 image → n ≡ length image → Writes memory machine out out′ (WriteResult.Written n)
+    written out′ n s p e =
+        let r = judged Accepted out′ (tests Accepted true fits (le-leb _ _ s)) (p ∙ overlaid out image s) in
         record { result = ap WriteResult.Written e ∙ r .result; bytes = r .bytes; number = r .number }

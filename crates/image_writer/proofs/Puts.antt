@@ -1,5 +1,4 @@
 -- Words and fields stored one after the other.
--- Assumes nothing.
 use Prim.Native.Nat.{ℕ, suc, _+_, _*_, _-_, _≤_, _<_, min}
 use mathlib.Core.Path.{_≡_, refl, sym, ap, ap₂, _∙_}
 use mathlib.Core.List.{List, [], _∷_, _++_}
@@ -10,7 +9,7 @@ use lib.ListN.{length, take, drop, getD, length-drop, drop-of-length-le}
 use lib.Seq.{sets, take-all, length-take-le, drop-cons, drop-drop}
 use Rattle.model.specs.declared.Machine.{Machine}
 use Rattle.image.specs.Bytes.{bytesOf, wordBytes}
-use Rattle.image.specs.Format.{Field, fieldBytes, versionField, registersField, flagsField, countField, wordsField, endField, wordsPerField, fieldsFor, memoryFields, flagBytes, imageOf}
+use Rattle.image.specs.Format.{Field, fieldBytes, versionField, registersField, flagsField, countField, wordsField, endField, wordsPerField, fieldsFor, spanOf, memoryFields, flagBytes, imageOf}
 use Rattle.image.proofs.BytesLaws.{length-bytes, length-word-bytes}
 use Rattle.image.proofs.FieldLaws.{length-field}
 use Rattle.image.proofs.MemoryLaws.{fields-enough, one-field-less, length-memory}
@@ -23,11 +22,6 @@ unfolding wordBytes
 next-word words from from′ n n′ h p q =
     ap₂ (λ (k : ℕ) (l : List ℕ). wordBytes (take k l)) (q ∙ add-one n′) (drop-cons words from 0 h)
     ∙ ap (λ (k : ℕ). bytesOf 4 (getD words from 0) ++ wordBytes (take n′ (drop k words))) (sym (add-one from) ∙ sym p)
-
--- four bytes stored, by what they are
-pub four-put : (out out′ : List ℕ) (at : ℕ) {a b c d a′ b′ c′ d′ : ℕ} → out′ ≡ sets out at (a ∷ b ∷ c ∷ d ∷ []) → a ≡ a′ → b ≡ b′ → c ≡ c′ → d ≡ d′
-    → out′ ≡ sets out at (a′ ∷ b′ ∷ c′ ∷ d′ ∷ [])
-four-put out out′ at e p q r s = e ∙ (λ i. sets out at (p i ∷ q i ∷ r i ∷ s i ∷ []))
 
 -- a header and then a value are a field
 pub field-put : (f : Field) (out out′ out″ : List ℕ) (at n : ℕ) (value : List ℕ) → out′ ≡ sets out at (f .tag ∷ bytesOf 2 n) → out″ ≡ sets out′ (at + 3) value
@@ -75,14 +69,18 @@ length-word-field memory from count h =
     let l : length words ≡ count = length-take-le count (drop from memory) (omega (arith, length-drop from memory)) in
     omega (arith, length-field (wordsField count) (wordBytes words), length-word-bytes words)
 
+version-field : (version : ℕ) → _≡_ {A = List ℕ} (1 ∷ 1 ∷ 0 ∷ version ∷ []) (fieldBytes versionField (version ∷ []))
+unfolding fieldBytes bytesOf
+version-field version = refl
+
 end-field : _≡_ {A = List ℕ} (0xFF ∷ bytesOf 2 0) (fieldBytes endField [])
 unfolding fieldBytes bytesOf
 end-field = refl
 
 -- the fields stored one after the other are the image
 pub image-put : (version : ℕ) (machine : Machine) (memory o₀ o₁ o₂ o₃ o₄ o₅ o₆ : List ℕ) (end : ℕ)
-    → length (machine .regs) ≡ 8 → end ≡ 53 + (4 * length memory + 3 * fieldsFor (length memory))
-    → o₁ ≡ sets o₀ 0 (fieldBytes versionField (version ∷ []))
+    → length (machine .regs) ≡ 8 → end ≡ 53 + spanOf (length memory)
+    → o₁ ≡ sets o₀ 0 (1 ∷ 1 ∷ 0 ∷ version ∷ [])
     → o₂ ≡ sets o₁ 4 (fieldBytes registersField (wordBytes (machine .regs)))
     → o₃ ≡ sets o₂ 39 (fieldBytes flagsField (flagBytes (machine .flags)))
     → o₄ ≡ sets o₃ 46 (fieldBytes (countField (length memory)) (bytesOf 4 (length memory)))
@@ -108,4 +106,4 @@ image-put version machine memory o₀ o₁ o₂ o₃ o₄ o₅ o₆ end eight at
     (store-step o₃ o₄ 46 53 f₄ (f₅ ++ f₆) _ p₄ n₄
     (store-step o₂ o₃ 39 46 f₃ (f₄ ++ (f₅ ++ f₆)) _ p₃ n₃
     (store-step o₁ o₂ 4 39 f₂ (f₃ ++ (f₄ ++ (f₅ ++ f₆))) _ p₂ n₂
-    (store-step o₀ o₁ 0 4 f₁ (f₂ ++ (f₃ ++ (f₄ ++ (f₅ ++ f₆)))) _ p₁ n₁ refl))))
+    (store-step o₀ o₁ 0 4 f₁ (f₂ ++ (f₃ ++ (f₄ ++ (f₅ ++ f₆)))) _ (p₁ ∙ ap (sets o₀ 0) (version-field version)) n₁ refl))))

@@ -1,17 +1,10 @@
 // Numbers and words as bytes, lowest byte first, stored from a place on.
 ghost use mathlib.Core.Path.{_≡_};
 ghost use mathlib.Core.List.{[], _∷_};
-ghost use Prim.Native.Nat.{_+_, _*_, _%_, _≤_};
+ghost use Prim.Native.Nat.{_+_, _*_, _≤_};
 ghost use lib.ListN.{length, take, drop};
 ghost use lib.Seq.{sets};
 ghost use Rattle.image.specs.Bytes.{bytesOf, wordBytes};
-
-// The lowest byte of a number.
-fn low(x: u32) -> u8
-    ensures { λ r. ⌜ r ≡ x % 256 ⌝ }
-{
-    (x % 256) as u8
-}
 
 // The compiler joins the four stores into one.
 pub fn put_four(out: &mut [u8], at: usize, a: u8, b: u8, c: u8, d: u8)
@@ -31,7 +24,14 @@ pub fn put_word(out: &mut [u8], at: usize, word: u32)
     let second = word / 256;
     let third = second / 256;
     let fourth = third / 256;
-    put_four(out, at, low(word), low(second), low(third), low(fourth));
+    put_four(
+        out,
+        at,
+        (word % 256) as u8,
+        (second % 256) as u8,
+        (third % 256) as u8,
+        (fourth % 256) as u8,
+    );
 }
 
 // A field's tag and length.
@@ -40,8 +40,8 @@ pub fn put_header(out: &mut [u8], at: usize, tag: u8, size: u32)
     ensures { λ r. ⌜ now (out .exit) ≡ sets (now (out .entry)) at (tag ∷ bytesOf 2 size) ⌝ }
 {
     out[at] = tag;
-    out[at + 1] = low(size);
-    out[at + 2] = low(size / 256);
+    out[at + 1] = (size % 256) as u8;
+    out[at + 2] = (size / 256 % 256) as u8;
 }
 
 // `count` words, those from `from` on.

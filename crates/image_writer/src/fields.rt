@@ -7,34 +7,18 @@ use image::words_in_field;
 use model::Flags;
 use model::Machine;
 ghost use mathlib.Core.Path.{_≡_};
-ghost use mathlib.Core.List.{[], _∷_};
 ghost use Prim.Native.Nat.{_+_, _*_, _≤_};
 ghost use lib.ListN.{length, take, drop};
 ghost use lib.Seq.{sets};
-ghost use Rattle.arithmetic.specs.Words.{asNumber};
 ghost use Rattle.model.specs.Refusals.{mostWords};
 ghost use Rattle.image.specs.Bytes.{bytesOf, wordBytes};
-ghost use Rattle.image.specs.Format.{fieldBytes, versionField, registersField, flagsField, countField, wordsField, wordsPerField, fieldsFor, memoryFields, flagBytes, imageOf};
+ghost use Rattle.image.specs.Format.{fieldBytes, registersField, flagsField, countField, wordsField, wordsPerField, fieldsFor, spanOf, memoryFields, flagBytes, imageOf};
 
 pub fn image_size(words: usize) -> usize
     requires { ⌜ words ≤ mostWords ⌝ }
-    ensures { λ r. ⌜ r ≡ 56 + 4 * words + 3 * fieldsFor words ⌝ }
+    ensures { λ r. ⌜ r ≡ 56 + spanOf words ⌝ }
 {
     56 + 4 * words + 3 * ((words + 1023) / 1024)
-}
-
-fn flag_byte(flag: bool) -> u8
-    ensures { λ r. ⌜ r ≡ asNumber flag ⌝ }
-{
-    if flag { 1 } else { 0 }
-}
-
-fn put_version(out: &mut [u8], at: usize, version: u8)
-    requires { ⌜ at + 4 ≤ length (now out) ⌝ }
-    ensures { λ r. ⌜ now (out .exit) ≡ sets (now (out .entry)) at (fieldBytes versionField (version ∷ [])) ⌝ }
-{
-    put_header(out, at, 1, 1);
-    out[at + 3] = version;
 }
 
 fn put_registers(out: &mut [u8], at: usize, regs: [u32; 8])
@@ -50,11 +34,14 @@ fn put_flags(out: &mut [u8], at: usize, flags: Flags)
     ensures { λ r. ⌜ now (out .exit) ≡ sets (now (out .entry)) at (fieldBytes flagsField (flagBytes flags)) ⌝ }
 {
     put_header(out, at, 3, 4);
-    let carry = flag_byte(flags.carry);
-    let overflow = flag_byte(flags.overflow);
-    let negative = flag_byte(flags.negative);
-    let zero = flag_byte(flags.zero);
-    put_four(out, at + 3, carry, overflow, negative, zero);
+    put_four(
+        out,
+        at + 3,
+        flags.carry as u8,
+        flags.overflow as u8,
+        flags.negative as u8,
+        flags.zero as u8,
+    );
 }
 
 fn put_count(out: &mut [u8], at: usize, words: u32)
@@ -76,7 +63,7 @@ fn put_word_field(memory: &[u32], from: usize, count: usize, out: &mut [u8], at:
 
 // All tag-05 fields.
 fn put_memory(memory: &[u32], out: &mut [u8], start: usize)
-    requires { ⌜ start + (4 * length (now memory) + 3 * fieldsFor (length (now memory))) ≤ length (now out) ⌝ }
+    requires { ⌜ start + spanOf (length (now memory)) ≤ length (now out) ⌝ }
     ensures { λ r. ⌜ now (out .exit) ≡ sets (now (out .entry)) start (memoryFields (fieldsFor (length (now (memory .entry)))) (now (memory .entry))) ⌝ }
 {
     let mut at = start;
@@ -90,14 +77,14 @@ fn put_memory(memory: &[u32], out: &mut [u8], start: usize)
 }
 
 pub fn put_image(memory: &[u32], machine: Machine, out: &mut [u8])
-    requires { ⌜ (length (now memory) ≤ mostWords) × (56 + 4 * length (now memory) + 3 * fieldsFor (length (now memory)) ≤ length (now out)) ⌝ }
+    requires { ⌜ (length (now memory) ≤ mostWords) × (56 + spanOf (length (now memory)) ≤ length (now out)) ⌝ }
     ensures { λ r. ⌜ now (out .exit) ≡ sets (now (out .entry)) 0 (imageOf 1 machine (now (memory .entry))) ⌝ }
 {
     let words = memory.len();
     let end = image_size(words) - 3;
     let regs = machine.regs;
     let flags = machine.flags;
-    put_version(out, 0, 1);
+    put_four(out, 0, 1, 1, 0, 1); // tag 1, length 1, version 1
     put_registers(out, 4, regs);
     put_flags(out, 39, flags);
     put_count(out, 46, words as u32);

@@ -1,5 +1,4 @@
 -- The waits of several accesses, one access more at a time.
--- Assumes nothing.
 use Prim.Native.Nat.{ℕ, zero, suc, _+_, _≤_, _<_}
 use mathlib.Core.Path.{_≡_, refl, sym, ap, _∙_}
 use mathlib.Core.Bool.{Bool, true, false, cond, _&&_}
@@ -10,9 +9,10 @@ use native.Mathlib.Omega.{arith}
 use lib.ListN.{length}
 use borrow.Author.Tests.{lt-ltb, le-ltb}
 use Rattle.arithmetic.specs.Words.{asNumber}
-use Rattle.model.specs.Operands.{operandA, operandB, inMemory}
+use Rattle.model.specs.declared.Operand.{Operand}
+use Rattle.model.specs.Operands.{inMemory}
 use Rattle.model.specs.Waits.{waitAt, nextWait, waitSum, positionAfter}
-use Rattle.instruction.proofs.Operands.{absent}
+use Rattle.operands.proofs.Operands.{absent}
 use Rattle.interpreter.specs.declared.clocks.Spent.{Spent}
 use Rattle.interpreter.specs.Clocks.{costOf, moreOf, walkedOf, clockedOf}
 
@@ -60,11 +60,11 @@ module _ (waits : List ℕ) where
   walked-if c p n false e f = rw (add-zero n) (f ∙ e)
 
   -- an instruction's accesses, in the order fetch, A, B, store to memory
-  pub clocked-walks : (w : Spent) (word : ℕ) (stored : Bool) {a b : Bool} {x : ℕ} {f g h r : Spent}
-      → a ≡ inMemory (operandA word) → b ≡ inMemory (operandB word) → x ≡ costOf a b stored
+  pub clocked-walks : (w : Spent) (oa ob : Operand) (stored : Bool) {a b : Bool} {x : ℕ} {f g h r : Spent}
+      → a ≡ inMemory oa → b ≡ inMemory ob → x ≡ costOf a b stored
       → f ≡ moreOf waits (record { clocks = w .clocks + x; position = w .position }) → g ≡ cond a (moreOf waits f) f → h ≡ cond b (moreOf waits g) g → r ≡ cond (stored && b) (moreOf waits h) h
-      → r ≡ clockedOf waits w word stored
-  clocked-walks w word stored {a} {b} {x} p q e first with-a with-b last =
+      → r ≡ clockedOf waits w oa ob stored
+  clocked-walks w oa ob stored {a} {b} {x} p q e first with-a with-b last =
       let c = w .clocks + x in
       walked-if c (w .position) (1 + asNumber a + asNumber b) (stored && b)
       (walked-if c (w .position) (1 + asNumber a) b (walked-if c (w .position) 1 a (walked-first c (w .position) first) with-a) with-b)
@@ -91,6 +91,6 @@ module _ (waits : List ℕ) where
     pub walked-past : (n : ℕ) → record { clocks = c; position = p } ≡ walkedOf waits c p n
     walked-past n = spent-eq (omega (arith, no-sum n)) (sym (no-move n))
 
-  pub clocked-past : (w : Spent) (word : ℕ) (stored : Bool) {a b : Bool} {x : ℕ} → a ≡ inMemory (operandA word) → b ≡ inMemory (operandB word) → x ≡ costOf a b stored
-      → length waits ≤ w .position → record { clocks = w .clocks + x; position = w .position } ≡ clockedOf waits w word stored
-  clocked-past w word stored p q e past = rw (e, p, q) (walked-past _ (w .position) past _)
+  pub clocked-past : (w : Spent) (oa ob : Operand) (stored : Bool) {a b : Bool} {x : ℕ} → a ≡ inMemory oa → b ≡ inMemory ob → x ≡ costOf a b stored
+      → length waits ≤ w .position → record { clocks = w .clocks + x; position = w .position } ≡ clockedOf waits w oa ob stored
+  clocked-past w oa ob stored p q e past = rw (e, p, q) (walked-past _ (w .position) past _)

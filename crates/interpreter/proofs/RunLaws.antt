@@ -1,5 +1,4 @@
 -- The shared loop: where it stands after i instructions, one turn more, and its two ends.
--- Assumes nothing.
 use Prim.Native.Nat.{ℕ, _+_, _*_, _≤_, _<_, _^_}
 use mathlib.Core.Path.{_≡_, refl, sym, ap, subst, _∙_}
 use mathlib.Core.Bool.{Bool, true, false, cond, _&&_}
@@ -17,8 +16,8 @@ use Rattle.model.specs.Interpreter as I
 use Rattle.model.specs.Journal.{Pair, storedBy, journalPairs, journalWords, overlay}
 use Rattle.model.proofs.Bounds.{clocks-le}
 use Rattle.model.proofs.Runs.{outside-stays, outside-pairs, pairs-le}
-use Rattle.instruction.specs.Packed.{packedOf, flagsOf}
-use Rattle.instruction.proofs.Packing.{unpacks}
+use Rattle.model.specs.Packed.{packedOf, flagsOf}
+use Rattle.effects.proofs.Packing.{unpacks}
 use Rattle.step.specs.declared.Stepped.{Stepped}
 use Rattle.step.specs.Steps.{machine, kept, journaled, steppedOf, stoppedAt, Steps}
 use Rattle.step.proofs.StepLaws.{cond-true, cond-false}
@@ -74,7 +73,7 @@ module _ {regs memory journal : List ℕ} {pairs flags : ℕ} {regs′ memory′
     abbrev at : I.Run
     at = runAt regs (flagsOf flags) memory p i c
 
-    advances : s .inside ≡ true → {w : Spent} → w ≡ clockedOf waits (record { clocks = c; position = p }) (s .word) (s .stored)
+    advances : s .inside ≡ true → {w : Spent} → w ≡ clockedOf waits (record { clocks = c; position = p }) (s .oa) (s .ob) (s .stored)
         → I.advance waits at ≡ runAt regs′ (flagsOf (s .flags)) memory′ (w .position) (i + 1) (w .clocks)
     unfolding I.advance I.execute
     advances e f =
@@ -131,7 +130,7 @@ module _ (memory₀ waits journal₀ : List ℕ) (start : Machine) (count : ℕ)
       unfolding journalPairs
       next-pairs = ap pairsAt (add-one i) ∙ ap (λ (r : I.Run). pairsAt i ++ storedBy r) (a .state)
 
-      pub turn : s .inside ≡ true → {w : Spent} → w ≡ clockedOf waits (record { clocks = clocks; position = position }) (s .word) (s .stored)
+      pub turn : s .inside ≡ true → {w : Spent} → w ≡ clockedOf waits (record { clocks = clocks; position = position }) (s .oa) (s .ob) (s .stored)
           → count < 2 ^ 32 → length memory′ ≡ length memory → length journal′ ≡ length journal
           → At memory′ journal′ regs′ (s .flags) (w .position) (w .clocks) (s .pairs) (i + 1)
       turn e f few lm lj =

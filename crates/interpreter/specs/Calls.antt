@@ -1,5 +1,4 @@
--- The two public calls, run and file run: their results, the memory and the journal at exit, carried out or turned down ("Machine and instruction word", "File run and journal", "Why a call is turned down").
--- Assumes nothing.
+-- The two public calls, run and file run: their results, the memory and the journal at exit, carried out or turned down. Document 01, "Machine and instruction word", "File run and journal" and "Why a call is turned down".
 use Prim.Native.Nat.{ℕ}
 use mathlib.Core.Path.{_≡_}
 use mathlib.Core.List.{List, []}

@@ -1,10 +1,10 @@
--- The clocks of one instruction, from its word and whether its result was stored ("Clocks": what an instruction costs, and its waits).
--- Assumes nothing.
+-- The clocks of one instruction, from its operands and whether its result was stored: its cost and its waits. Document 01, "Clocks".
 use Prim.Native.Nat.{ℕ, _+_}
 use mathlib.Core.Bool.{Bool, _&&_}
 use mathlib.Core.List.{List}
 use Rattle.arithmetic.specs.Words.{asNumber}
-use Rattle.model.specs.Operands.{operandA, operandB, inMemory}
+use Rattle.model.specs.declared.Operand.{Operand}
+use Rattle.model.specs.Operands.{inMemory}
 use Rattle.model.specs.Waits.{waitAt, nextWait, waitSum, positionAfter}
 use Rattle.interpreter.specs.declared.clocks.Spent.{Spent}
 
@@ -22,8 +22,8 @@ abbrev pub walkedOf : List ℕ → (c p n : ℕ) → Spent
 walkedOf waits c p n = record { clocks = c + waitSum waits p n; position = positionAfter waits p n }
 
 -- one instruction more
-abbrev pub clockedOf : List ℕ → Spent → ℕ → Bool → Spent
-clockedOf waits w word stored =
-    let memA = inMemory (operandA word) in
-    let memB = inMemory (operandB word) in
+abbrev pub clockedOf : List ℕ → Spent → (oa ob : Operand) → Bool → Spent
+clockedOf waits w oa ob stored =
+    let memA = inMemory oa in
+    let memB = inMemory ob in
     walkedOf waits (w .clocks + costOf memA memB stored) (w .position) (accessesOf memA memB stored)

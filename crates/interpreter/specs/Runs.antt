@@ -1,5 +1,4 @@
--- What the loop that both runs share leaves: the state, the memory and the journal of `interpret` ("Machine and instruction word", "Clocks", "File run and journal").
--- Assumes nothing.
+-- What the loop that both runs share leaves: the state, the memory and the journal of `interpret`. Document 01, "Machine and instruction word", "Clocks" and "File run and journal".
 use Prim.Native.Nat.{ℕ, _*_, _≤_}
 use mathlib.Core.Path.{_≡_}
 use mathlib.Core.List.{List}

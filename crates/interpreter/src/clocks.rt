@@ -1,7 +1,6 @@
 // The clocks of an instruction, with the waits of its accesses.
-use instruction::operand::in_memory;
-use instruction::operand::operand_a;
-use instruction::operand::operand_b;
+use model::Operand;
+use operands::in_memory;
 ghost use mathlib.Core.Path.{_≡_};
 ghost use mathlib.Core.Bool.{cond};
 ghost use Prim.Native.Nat.{_+_, _^_, _<_, _≤_};
@@ -60,12 +59,12 @@ fn more_if(waits: &[u16], w: Spent, b: bool) -> Spent
 }
 
 // One instruction more: its cost, and the waits for its fetch, A, B and store to memory.
-pub fn clocked(waits: &[u16], w: Spent, word: u32, stored: bool) -> Spent
+pub fn clocked(waits: &[u16], w: Spent, oa: Operand, ob: Operand, stored: bool) -> Spent
     requires { ⌜ w .clocks < 2 ^ 61 ⌝ }
-    ensures { λ r. ⌜ r ≡ clockedOf (now (waits .entry)) w word stored ⌝ }
+    ensures { λ r. ⌜ r ≡ clockedOf (now (waits .entry)) w oa ob stored ⌝ }
 {
-    let mem_a = in_memory(operand_a(word));
-    let mem_b = in_memory(operand_b(word));
+    let mem_a = in_memory(oa);
+    let mem_b = in_memory(ob);
     let position = w.position;
     let clocks = w.clocks + cost(mem_a, mem_b, stored);
     let before = Spent { clocks, position };

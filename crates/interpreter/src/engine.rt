@@ -1,8 +1,8 @@
 // The loop that both kinds of run share. One loop with one call of the step, waits and journal in it: a second one would cost both their speed.
 use super::clocks::Spent;
 use super::clocks::clocked;
-use instruction::flags::packed;
-use instruction::flags::unpacked;
+use effects::packed;
+use effects::unpacked;
 use model::Ending;
 use model::Machine;
 use step::step;
@@ -46,7 +46,9 @@ pub fn engine(
                 pairs,
             };
         }
-        let c = clocked(waits, Spent { clocks, position }, s.word, s.stored);
+        let oa = s.oa;
+        let ob = s.ob;
+        let c = clocked(waits, Spent { clocks, position }, oa, ob, s.stored);
         flags = s.flags;
         clocks = c.clocks;
         position = c.position;

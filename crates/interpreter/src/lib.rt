@@ -65,10 +65,11 @@ pub fn run(memory: &mut [u32], waits: &[u16], start: Machine, count: u32) -> Run
             let e = engine(&mut *memory, waits, &mut none, start, count);
             let machine = e.machine;
             let ending = e.ending;
+            let ran = e.ran;
             RunResult {
                 answer: run_answer(ending),
                 machine,
-                ran: e.ran,
+                ran,
                 clocks: e.clocks,
             }
         }

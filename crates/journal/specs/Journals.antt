@@ -1,5 +1,4 @@
--- Taking a file run back ("File run and journal"): the former words of a journal's pairs put back into the memory.
--- Assumes nothing.
+-- Taking a file run back: the former words of a journal's pairs put back into the memory. Document 01, "File run and journal".
 use Prim.Native.Nat.{ℕ, zero, suc, _+_, _*_}
 use mathlib.Core.List.{List}
 use Rattle.model.specs.Words.{wordAt, storeWord}

@@ -1,9 +1,26 @@
 // Taking a run's stores to memory back, from its journal of addresses and former words.
-use instruction::memory::load;
-use instruction::memory::store;
-use instruction::memory::wide;
+use operands::load;
+use operands::store;
+use operands::wide;
 ghost use mathlib.Core.Path.{_≡_};
+ghost use Prim.Native.Nat.{_+_, _^_, _<_};
+ghost use Rattle.model.specs.Words.{wordAt, storeWord};
 ghost use Rattle.journal.specs.Journals.{undone};
+
+// Puts the former word of the pair at a journal's place back. Where the journal has the whole pair, one test serves for both of its words.
+fn put_back(memory: &mut [u32], journal: &[u32], at: usize)
+    requires { ⌜ at < 2 ^ 34 ⌝ }
+    ensures { λ _. ⌜ now (memory .exit) ≡ storeWord (now (memory .entry)) (wordAt (now (journal .entry)) at) (wordAt (now (journal .entry)) (at + 1)) ⌝ }
+{
+    let second = at + 1;
+    if second < journal.len() {
+        store(&mut *memory, wide(journal[at]), journal[second]);
+        return;
+    }
+    let address = load(journal, at);
+    let former = load(journal, second);
+    store(&mut *memory, wide(address), former);
+}
 
 // Puts the former words back, the last store first.
 pub fn undo(memory: &mut [u32], journal: &[u32], pairs: u32)
@@ -12,9 +29,6 @@ pub fn undo(memory: &mut [u32], journal: &[u32], pairs: u32)
     let mut k = pairs;
     while 0 < k {
         k -= 1;
-        let at = 2 * wide(k);
-        let address = load(journal, at);
-        let former = load(journal, at + 1);
-        store(&mut *memory, wide(address), former);
+        put_back(&mut *memory, journal, 2 * wide(k));
     }
 }

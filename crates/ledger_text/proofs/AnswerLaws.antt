@@ -1,5 +1,4 @@
 -- What `report` answers: for an output that is too short, for a bad image, and for one that is run.
--- Assumes nothing.
 use Prim.Native.Nat.{ℕ, _+_, _≤_, _<_}
 use mathlib.Core.Path.{_≡_, refl, sym, ap, _∙_}
 use mathlib.Core.Bool.{Bool, true, false, cond}
@@ -16,12 +15,12 @@ use Rattle.image.specs.declared.ReadAnswer.{ReadAnswer}
 use Rattle.image.specs.declared.ReadResult.{ReadResult}
 use Rattle.image.specs.Reading.{Outcome, loaded, refused, readOf}
 use Rattle.image.specs.Calls.{readResult, readWords, Reads}
+use Rattle.image.proofs.Laws.{loadedFits}
 use Rattle.ledger_text.specs.declared.ReportAnswer.{ReportAnswer}
 use Rattle.ledger_text.specs.Lines.{refusedText, longestText}
 use Rattle.ledger_text.specs.Parts.{Extends, RunPuts}
 use Rattle.ledger_text.specs.Report.{ledger, ledgerWords, roomy, Reports}
 use Rattle.ledger_text.proofs.LengthLaws.{ledger-length}
-use Rattle.ledger_text.proofs.LoadedLaws.{loaded-fits}
 
 module _ (bytes memory out : List ℕ) where
   pub short : length out < longestText → Reports bytes memory out memory out ReportAnswer.ShortOutput
@@ -99,7 +98,7 @@ module _ (bytes memory out : List ℕ) where
           ∙ ap (λ (k : ℕ). drop k memory) (l .long)
 
       pub runs : (0 < length (take count memory₁)) × (length (take count memory₁) ≤ mostWords)
-      runs = rw first (loaded-fits bytes (length memory) (l .is))
+      runs = rw first (loadedFits bytes (length memory) (l .is))
 
       pub good : {part out′ : List ℕ} {q : ℕ} → longestText ≤ length out → RunPuts (r .machine) (take count memory₁) out part out′ q
           → length part ≡ length (take count memory₁) → Reports bytes memory out (part ++ drop count memory₁) out′ (ReportAnswer.Text q)

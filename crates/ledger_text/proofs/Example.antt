@@ -1,5 +1,4 @@
 -- Document 01's example of "The ledger program": two words, registers and flags 0. antt computes its text.
--- Assumes nothing.
 use mathlib.Core.Path.{_≡_, refl}
 use mathlib.Core.List.{[], _∷_}
 use Rattle.arithmetic.specs.Words.{signedOf, leaves}

@@ -2,6 +2,5 @@ pub mod PartLaws
 pub mod RunLaws
 pub mod LengthLaws
 pub mod TurnLaws
-pub mod LoadedLaws
 pub mod AnswerLaws
 pub mod Example

@@ -1,5 +1,4 @@
 -- The loop that puts the text of a run in: where it stands, one line more, and its two ends.
--- Assumes nothing.
 use Prim.Native.Nat.{ℕ, _+_, _-_, _≤_, _<_}
 use mathlib.Core.Path.{_≡_, refl, sym, ap, _∙_}
 use mathlib.Core.List.{List, []}

@@ -1,5 +1,4 @@
 -- The ledger's text as a list of bytes: what document 01, "The ledger program", has printed for an image.
--- Assumes nothing.
 use Prim.Native.Nat.{ℕ, zero, suc, _-_}
 use mathlib.Core.List.{List, [], _∷_, _++_}
 use Rattle.arithmetic.specs.Words.{asNumber}

@@ -1,5 +1,4 @@
 -- The call `report`, document 01, "The ledger program": what is printed for an image, and every word and byte lent for it afterwards.
--- Assumes nothing.
 use Prim.Native.Nat.{ℕ}
 use mathlib.Core.Path.{_≡_}
 use mathlib.Core.Bool.{Bool, cond}

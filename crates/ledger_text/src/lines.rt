@@ -1,4 +1,5 @@
 // The parts of the text, each put into a buffer from a place on. Each answers the place after it.
+use model::Ending;
 use model::Flags;
 use model::Refusal;
 use refusals::refusal_number;
@@ -7,13 +8,18 @@ use text::put_hexadecimal;
 use text::put_text;
 ghost use mathlib.Core.Path.{_≡_};
 ghost use mathlib.Core.List.{_∷_, [], _++_};
-ghost use Prim.Native.Nat.{ℕ, _+_, _^_, _≤_, _<_};
-ghost use lib.ListN.{length};
+ghost use Prim.Native.Nat.{_^_, _<_};
 ghost use Rattle.arithmetic.specs.Words.{asNumber};
-ghost use Rattle.model.specs.Refusals.{refusalNumber};
 ghost use Rattle.text.specs.Text.{lineFeed, digit, decimal, hexadecimal};
-ghost use Rattle.ledger_text.specs.Lines.{flagDigits, line, ending, refusedText};
+ghost use Rattle.ledger_text.specs.Lines.{header, flagDigits, line, endingWord, ending, refusedText};
 ghost use Rattle.ledger_text.specs.Parts.{Extends, ExtendsBy};
+
+// The line above the instructions' lines.
+pub fn put_header(out: &mut [u8]) -> usize
+    ensures { λ r. ⌜ ExtendsBy 25 (now (out .entry)) 0 header (now (out .exit)) r ⌝ }
+{
+    put_text(out, 0, b"step pc word clocks cvnz\n")
+}
 
 // A number, and the byte that ends it.
 fn put_number(out: &mut [u8], at: usize, n: u64, end: u8) -> usize
@@ -71,12 +77,22 @@ pub fn put_line(
     put_flags(out, after_clocks, flags)
 }
 
-// The ending's word, with count and total.
-pub fn put_ending(out: &mut [u8], at: usize, word: &[u8], count: u64, total: u64) -> usize
-    requires { ⌜ (at < 2 ^ 16) × (length (now word) ≤ 9) ⌝ }
-    ensures { λ r. ⌜ Extends (now (out .entry)) at (ending (now (word .entry)) count total) (now (out .exit)) r ⌝ }
+fn put_ending_word(out: &mut [u8], at: usize, how: Ending) -> usize
+    requires { ⌜ at < 2 ^ 16 ⌝ }
+    ensures { λ r. ⌜ ExtendsBy 9 (now (out .entry)) at (endingWord how) (now (out .exit)) r ⌝ }
 {
-    let after_word = at + put_text(out, at, word);
+    match how {
+        Ending::Finished => at + put_text(out, at, b"finished "),
+        Ending::Outside => at + put_text(out, at, b"outside "),
+    }
+}
+
+// The ending's word, with count and total.
+pub fn put_ending(out: &mut [u8], at: usize, how: Ending, count: u64, total: u64) -> usize
+    requires { ⌜ at < 2 ^ 16 ⌝ }
+    ensures { λ r. ⌜ Extends (now (out .entry)) at (ending (endingWord how) count total) (now (out .exit)) r ⌝ }
+{
+    let after_word = put_ending_word(out, at, how);
     let after_count = put_number(out, after_word, count, b' ');
     put_number(out, after_count, total, b'\n')
 }

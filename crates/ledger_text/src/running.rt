@@ -1,14 +1,18 @@
 // The text of a run: header, a line for each instruction, ending.
 use super::lines::put_ending;
+use super::lines::put_header;
 use super::lines::put_line;
+use interpreter::RunResult;
 use interpreter::run;
+use model::Ending;
 use model::Machine;
-use text::put_text;
 ghost use mathlib.Core.Path.{_≡_};
+ghost use mathlib.Core.List.{[]};
 ghost use Prim.Native.Nat.{_≤_, _<_};
 ghost use lib.ListN.{length};
 ghost use Rattle.model.specs.Refusals.{mostWords};
 ghost use Rattle.model.specs.Words.{wordAt};
+ghost use Rattle.interpreter.specs.Calls.{Runs};
 ghost use Rattle.ledger_text.specs.Parts.{RunPuts};
 
 const MOST_LINES: u64 = 16;
@@ -21,23 +25,29 @@ fn word_at(memory: &[u32], address: u32) -> u32
     if at < memory.len() { memory[at] } else { 0 }
 }
 
+fn run_one(memory: &mut [u32], machine: Machine) -> RunResult
+    ensures { λ r. ⌜ Runs (now (memory .entry)) [] machine 1 (now (memory .exit)) r ⌝ }
+{
+    let no_waits: [u16; 0] = [];
+    run(memory, &no_waits, machine, 1)
+}
+
 // Runs one instruction at a time, as the line shows what was there before it.
 pub fn put_run(memory: &mut [u32], start: Machine, out: &mut [u8]) -> usize
     requires { ⌜ (0 < length (now memory)) × (length (now memory) ≤ mostWords) ⌝ }
     ensures { λ r. ⌜ RunPuts start (now (memory .entry)) (now (out .entry)) (now (memory .exit)) (now (out .exit)) r ⌝ }
 {
-    let no_waits: [u16; 0] = [];
-    let mut at = put_text(out, 0, b"step pc word clocks cvnz\n");
+    let mut at = put_header(out);
     let mut machine = start;
     let mut ran = 0;
     let mut clocks = 0;
     while ran < MOST_LINES {
         let address = machine.regs[0];
         let word = word_at(memory, address);
-        let step = run(memory, &no_waits, machine, 1);
+        let step = run_one(memory, machine);
         // A run on an image's words is never refused: what did not run came outside.
         if step.ran == 0 {
-            return put_ending(out, at, b"outside ", ran, clocks);
+            return put_ending(out, at, Ending::Outside, ran, clocks);
         }
         let next = step.machine;
         let flags = next.flags;
@@ -46,5 +56,5 @@ pub fn put_run(memory: &mut [u32], start: Machine, out: &mut [u8]) -> usize
         at = put_line(out, at, ran, address, word, step.clocks, flags);
         machine = next;
     }
-    put_ending(out, at, b"finished ", ran, clocks)
+    put_ending(out, at, Ending::Finished, ran, clocks)
 }

@@ -1,5 +1,4 @@
 -- One instruction that has its addresses: the gate machine comes, in the interpreter's clocks, to the interpreter's next machine.
--- Assumes nothing.
 use Prim.Native.Nat.{ℕ, _+_}
 use mathlib.Core.Path.{_≡_, refl, _∙_}
 use mathlib.Core.Bool.{Bool, true, false, not, cond, _&&_, _||_}

@@ -1,5 +1,4 @@
 -- A call that is carried out: nothing that is demanded fails. The numbers of the refusals.
--- Assumes nothing.
 use Prim.Native.Nat.{_≤_}
 use mathlib.Core.Path.{_≡_, refl}
 use mathlib.Core.Bool.{Bool, true, false}

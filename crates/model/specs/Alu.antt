@@ -1,8 +1,7 @@
--- What an instruction has the arithmetic unit do, the flags and the storing condition. The unit's answers are of the crate arithmetic.
--- Assumes nothing.
+-- What an instruction has the arithmetic unit do, the flags and the storing condition. Document 01, "Machine and instruction word", move bits 0 and 1. The unit's answers are of the crate arithmetic.
 use Prim.Native.Nat.{ℕ}
-use mathlib.Core.Bool.{Bool, true, false, not, cond}
-use mathlib.Core.List.{List, [], _∷_}
+use mathlib.Core.Bool.{Bool, true, not, cond}
+use mathlib.Core.List.{[], _∷_}
 use lib.Dec.{eqb}
 use lib.ListN.{getD}
 use Rattle.arithmetic.specs.declared.AluOut.{AluOut}

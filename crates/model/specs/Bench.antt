@@ -1,5 +1,4 @@
--- The starred bench words of document 01: one instruction each, by the interpreter and by the gate machine.
--- Assumes nothing.
+-- The starred bench words: one instruction each, by the interpreter and by the gate machine. Document 01, "Bench words".
 use Prim.Native.Nat.{ℕ}
 use mathlib.Core.Bool.{Bool, true, false, _&&_}
 use mathlib.Core.List.{List, [], _∷_}
@@ -8,7 +7,7 @@ use Rattle.model.specs.declared.GateState.{GateState}
 use Rattle.arithmetic.specs.Words.{asNumber}
 use Rattle.model.specs.Words.{wordAt}
 use Rattle.model.specs.Interpreter.{interpret}
-use Rattle.model.specs.Gates.{gateRun}
+use Rattle.model.specs.Gates.{atRest, gateRun}
 use Rattle.model.specs.Agreement.{Mark, interpreterMark, gateMark, gateFrom, interpreterFrom}
 
 -- what a bench word is to leave
@@ -43,19 +42,9 @@ cases =
 -- the case's start: the registers that it does not name are 0, and so are the flags but C, and the latches
 abbrev pub startOf : Case → GateState
 startOf c =
-    record {
-      regs = 0 ∷ c .r1 ∷ c .r2 ∷ 0 ∷ 0 ∷ 0 ∷ 0 ∷ 0 ∷ [];
-      flags = record { carry = c .carry; overflow = false; negative = false; zero = false };
-      row = 0;
-      instruction = 0;
-      address = 0;
-      a = 0;
-      b = 0;
-      result = 0;
-      position = 0;
-      begun = false;
-      left = 0;
-    }
+    atRest
+    (0 ∷ c .r1 ∷ c .r2 ∷ 0 ∷ 0 ∷ 0 ∷ 0 ∷ 0 ∷ [])
+    (record { carry = c .carry; overflow = false; negative = false; zero = false })
 
 -- a mark, with its clocks, has what is expected
 abbrev pub has : Mark → ℕ → Expected → Bool

@@ -1,5 +1,4 @@
--- The interpreter: one instruction in the order (i) to (vi) of document 01, its clocks, and the run of n instructions.
--- Assumes nothing.
+-- The interpreter: one instruction in the order (i) to (vi), its clocks, and the run of n instructions with "outside". Document 01, "Machine and instruction word" and, for the clocks, "Clocks".
 use Prim.Native.Nat.{ℕ, zero, suc, _+_}
 use mathlib.Core.Bool.{Bool, cond, _&&_}
 use mathlib.Core.List.{List}

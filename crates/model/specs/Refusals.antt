@@ -1,5 +1,4 @@
--- Why a call is turned down: the numbers of document 01, its limits, and the first reason that applies.
--- Assumes nothing.
+-- Why a call is turned down: the reasons' numbers, the limits, and the first reason that applies to each run. Document 01, "Why a call is turned down".
 use Prim.Native.Nat.{ℕ, _*_}
 use mathlib.Core.Bool.{Bool, true, false, cond, _&&_}
 use mathlib.Core.List.{List}
@@ -62,11 +61,11 @@ abbrev pub waitsFit : List ℕ → Verdict
 waitsFit waits = demand (leb (length waits) mostWaits) LongWaitList
 
 -- 4: a row above 11, a position above 65,536, an access begun outside rows 1, 4, 6, 9 or with no clocks left, clocks left with none begun
+abbrev pub accessFits : GateState → Bool
+accessFits s = cond (s .begun) (isAccess (s .row) && ltb 0 (s .left)) (eqb (s .left) 0)
+
 abbrev pub stateFits : GateState → Verdict
-stateFits s =
-    demand
-    (leb (s .row) 11 && leb (s .position) mostWaits && cond (s .begun) (isAccess (s .row) && ltb 0 (s .left)) (eqb (s .left) 0))
-    BadGateState
+stateFits s = demand (leb (s .row) 11 && leb (s .position) mostWaits && accessFits s) BadGateState
 
 -- 5 and 6, of a file run of n instructions
 abbrev pub journalFits : List ℕ → ℕ → Verdict

@@ -1,5 +1,4 @@
--- Words of 32 bits as natural numbers: steps that go round at 2^32, bit fields, a list as registers or memory.
--- Assumes nothing.
+-- Words of 32 bits as natural numbers: steps that go round at 2^32, bit fields, a list as registers or memory. Document 01, "Machine and instruction word".
 use Prim.Native.Nat.{ℕ, _+_, _-_, _/_, _%_, _^_}
 use mathlib.Core.Bool.{Bool}
 use mathlib.Core.List.{List}

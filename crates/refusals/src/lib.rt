@@ -1,8 +1,12 @@
 // Why a call is turned down, as code: what is demanded of the borrowed slices, in the order of document 01's numbers.
+mod gate_state;
+
+use gate_state::access_fits;
+use model::GateState;
 use model::Refusal;
 use model::Verdict;
 ghost use mathlib.Core.Path.{_≡_};
-ghost use Rattle.model.specs.Refusals.{refusalNumber, demand, _then_, memoryFits, waitsFit, journalFits, runVerdict, fileVerdict};
+ghost use Rattle.model.specs.Refusals.{refusalNumber, demand, _then_, memoryFits, waitsFit, stateFits, journalFits, runVerdict, fileVerdict, gateVerdict};
 
 fn wide(x: u32) -> usize
     ensures { λ r. ⌜ r ≡ x ⌝ }
@@ -34,13 +38,13 @@ pub fn refusal_number(why: Refusal) -> u32
 }
 
 // Refused unless something holds.
-pub fn demand(holds: bool, why: Refusal) -> Verdict
-    ensures { λ r. ⌜ r ≡ demand holds why ⌝ }
+pub fn demand(holds: bool, reason: Refusal) -> Verdict
+    ensures { λ r. ⌜ r ≡ demand holds reason ⌝ }
 {
     if holds {
         Verdict::Accepted
     } else {
-        Verdict::Refused(why)
+        Verdict::Refused(reason)
     }
 }
 
@@ -66,14 +70,24 @@ pub fn memory_fits(memory: &[u32]) -> Verdict
 }
 
 // 3.
-pub fn waits_fit(waits: &[u16]) -> Verdict
+fn waits_fit(waits: &[u16]) -> Verdict
     ensures { λ r. ⌜ r ≡ waitsFit (now (waits .entry)) ⌝ }
 {
     demand(waits.len() <= 65_536, Refusal::LongWaitList)
 }
 
+// 4.
+fn state_fits(s: GateState) -> Verdict
+    ensures { λ r. ⌜ r ≡ stateFits s ⌝ }
+{
+    demand(
+        (s.row <= 11) & (s.position <= 65_536) & access_fits(s),
+        Refusal::BadGateState,
+    )
+}
+
 // 5 and 6, of a file run of count instructions.
-pub fn journal_fits(journal: &[u32], count: u32) -> Verdict
+fn journal_fits(journal: &[u32], count: u32) -> Verdict
     ensures { λ r. ⌜ r ≡ journalFits (now (journal .entry)) count ⌝ }
 {
     let places = 2 * wide(count);
@@ -93,4 +107,10 @@ pub fn file_verdict(memory: &[u32], journal: &[u32], count: u32) -> Verdict
     ensures { λ r. ⌜ r ≡ fileVerdict (now (memory .entry)) (now (journal .entry)) count ⌝ }
 {
     then(memory_fits(memory), journal_fits(journal, count))
+}
+
+pub fn gate_verdict(memory: &[u32], waits: &[u16], s: GateState) -> Verdict
+    ensures { λ r. ⌜ r ≡ gateVerdict (now (memory .entry)) (now (waits .entry)) s ⌝ }
+{
+    then(memory_fits(memory), then(waits_fit(waits), state_fits(s)))
 }

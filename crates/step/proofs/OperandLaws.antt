@@ -1,5 +1,4 @@
 -- Laws on operands: what the code takes is the definition's, and what was stepped down can be put back.
--- Assumes nothing.
 use Prim.Native.Nat.{ℕ, _%_}
 use mathlib.Core.Path.{_≡_, _∙_}
 use mathlib.Core.Bool.{true, false}

@@ -1,6 +1,5 @@
--- One instruction as the code does it in parts, and as a whole: what each part leaves, from the definitions of model ("Machine and instruction word", the order (i) to (vi)).
--- Flags go in and out packed; a store to memory is noted in a journal ("File run and journal").
--- Assumes nothing.
+-- One instruction as the code does it in parts, and as a whole: what each part leaves, from the definitions of model. Document 01, "Machine and instruction word", the order (i) to (vi).
+-- Flags go in and out packed; a store to memory is noted in a journal (document 01, "File run and journal").
 use Prim.Native.Nat.{ℕ, _+_, _*_}
 use mathlib.Core.Path.{_≡_}
 use mathlib.Core.Bool.{Bool, true, false, cond, _&&_}
@@ -13,7 +12,7 @@ use Rattle.model.specs.Words.{inc, storeWord}
 use Rattle.model.specs.Operands.{inMemory, stepDown, stepUp, registerWord, operandPresent, operandValue, storeInRegister}
 use Rattle.model.specs.Alu.{alu, flagsAfter, stores}
 use Rattle.model.specs.Interpreter.{instruction, opA, opB, regsB, valueA, valueB, inside, isStored, nextMemory, nextMachine}
-use Rattle.instruction.specs.Packed.{packedOf, flagsOf}
+use Rattle.model.specs.Packed.{packedOf, flagsOf}
 use Rattle.step.specs.declared.take.Taken.{Taken}
 use Rattle.step.specs.declared.fetch.Fetched.{Fetched}
 use Rattle.step.specs.declared.Stepped.{Stepped}
@@ -80,7 +79,8 @@ finishedOf pairs flags f =
     record {
       inside = true;
       flags = packedOf (flagsAfter (f .word) (flagsOf flags) (alu (f .word) (flagsOf flags) (f .a) (f .b)));
-      word = f .word;
+      oa = f .oa;
+      ob = f .ob;
       stored = stores (f .word) (flagsOf flags);
       pairs = cond (stores (f .word) (flagsOf flags) && inMemory (f .ob)) (inc pairs) pairs;
     }
@@ -109,14 +109,15 @@ journaled memory m journal pairs =
     journal
 
 abbrev pub stoppedAt : ℕ → ℕ → Stepped
-stoppedAt flags pairs = record { inside = false; flags = flags; word = 0; stored = false; pairs = pairs }
+stoppedAt flags pairs = record { inside = false; flags = flags; oa = Direct 0; ob = Direct 0; stored = false; pairs = pairs }
 
 abbrev pub steppedOf : List ℕ → Machine → ℕ → Stepped
 steppedOf memory m pairs =
     record {
       inside = true;
       flags = packedOf (nextMachine memory m .flags);
-      word = instruction memory m;
+      oa = opA memory m;
+      ob = opB memory m;
       stored = isStored memory m;
       pairs = cond (kept memory m) (inc pairs) pairs;
     }

@@ -1,11 +1,11 @@
 // What an instruction has the arithmetic unit do.
 use arithmetic::AluOut;
 use arithmetic::word_unit;
-use instruction::effect::unit_operation;
-use instruction::flags::carry;
+use effects::carry;
+use effects::unit_operation;
 ghost use mathlib.Core.Path.{_≡_};
 ghost use Rattle.model.specs.Alu.{alu};
-ghost use Rattle.instruction.specs.Packed.{flagsOf};
+ghost use Rattle.model.specs.Packed.{flagsOf};
 
 // Result, carry and overflow.
 pub fn compute(word: u32, flags: u32, a: u32, b: u32) -> AluOut

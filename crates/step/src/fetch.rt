@@ -1,12 +1,12 @@
 // The instruction and its operands, taken: (i) to (iii).
 use super::take::take;
-use instruction::memory::wide;
-use instruction::operand::operand_a;
-use instruction::operand::operand_b;
-use instruction::registers::register_word;
-use instruction::registers::set_register;
-use instruction::registers::step_pc;
 use model::Operand;
+use operands::operand_a;
+use operands::operand_b;
+use operands::register_word;
+use operands::set_register;
+use operands::step_pc;
+use operands::wide;
 ghost use mathlib.Core.Path.{_≡_};
 ghost use Rattle.step.specs.Steps.{nothing, Fetches};
 

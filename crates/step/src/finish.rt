@@ -3,9 +3,9 @@ use super::Stepped;
 use super::compute::compute;
 use super::fetch::Fetched;
 use super::put::put;
-use instruction::effect::set_flags;
-use instruction::effect::stores_on;
-use instruction::registers::step_up;
+use effects::set_flags;
+use effects::stores_on;
+use operands::step_up;
 ghost use Rattle.step.specs.Steps.{Finishes};
 
 // The storing condition is read from the old flags, and the new ones are made before the store, so that little is carried past it.
@@ -39,7 +39,8 @@ pub fn finish(
     Stepped {
         inside: true,
         flags: after,
-        word,
+        oa,
+        ob,
         stored,
         pairs: noted,
     }

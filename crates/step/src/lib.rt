@@ -7,15 +7,17 @@ mod take;
 
 use fetch::fetch;
 use finish::finish;
+use model::Operand;
 ghost use mathlib.Core.Path.{_≡_};
 ghost use Rattle.step.specs.Steps.{stoppedAt, Steps};
 
-// What one instruction leaves: the flags, packed; its word and whether its result was stored, which decide its clocks and accesses; the pairs in the journal.
+// What one instruction leaves: the flags, packed; its operands as decoded and whether its result was stored, which decide its clocks and accesses; the pairs in the journal.
 // Where an address is absent, inside is false and nothing has changed.
 pub struct Stepped {
     pub inside: bool,
     pub flags: u32,
-    pub word: u32,
+    pub oa: Operand,
+    pub ob: Operand,
     pub stored: bool,
     pub pairs: u32,
 }
@@ -26,7 +28,8 @@ fn outside(flags: u32, pairs: u32) -> Stepped
     Stepped {
         inside: false,
         flags,
-        word: 0,
+        oa: Operand::Direct(0),
+        ob: Operand::Direct(0),
         stored: false,
         pairs,
     }

@@ -1,10 +1,9 @@
 // The store into operand B, with its pair in the journal.
 use super::fetch::Fetched;
-use instruction::memory::store;
-use instruction::memory::wide;
-use instruction::operand::in_memory;
-use instruction::registers::set_register;
-ghost use mathlib.Core.Path.{_≡_};
+use operands::in_memory;
+use operands::set_register;
+use operands::store;
+use operands::wide;
 ghost use Rattle.step.specs.Steps.{Notes, Puts};
 
 // One pair more. Returns the number of pairs.

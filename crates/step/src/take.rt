@@ -1,11 +1,11 @@
 // An operand, taken: its register stepped down, its register's word, its value.
-use instruction::memory::load;
-use instruction::memory::wide;
-use instruction::operand::in_memory;
-use instruction::registers::register_word;
-use instruction::registers::set_register;
-use instruction::registers::step_down;
 use model::Operand;
+use operands::in_memory;
+use operands::load;
+use operands::register_word;
+use operands::set_register;
+use operands::step_down;
+use operands::wide;
 ghost use mathlib.Core.Path.{_≡_};
 ghost use Rattle.step.specs.Steps.{takenOf, Takes};
 

@@ -1,5 +1,4 @@
 -- Texts put into a buffer: one after the other, byte by byte, and past the buffer's end.
--- Assumes nothing.
 use Prim.Native.Nat.{ℕ, suc, _+_, _≤_, _<_}
 use mathlib.Core.Path.{_≡_, refl, sym, ap, _∙_}
 use mathlib.Core.List.{List, [], _∷_, _++_}

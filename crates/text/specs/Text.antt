@@ -1,5 +1,4 @@
 -- Text as a list of bytes: letters, numbers in decimal and words in capital hexadecimal digits (document 01, "The ledger program").
--- Assumes nothing.
 use Prim.Native.Nat.{ℕ, zero, suc, _+_, _/_, _%_}
 use Prim.Native.Char.{code}
 use Prim.Native.String.{String}

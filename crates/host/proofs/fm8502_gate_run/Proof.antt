@@ -1,22 +1,17 @@
 -- `host::fm8502_gate_run` meets its contract.
--- Assumes nothing.
 use borrow.Author.Needs.{needs}
-use Rattle.host_words.proofs.FitLaws.{refuted, granted, state-readable}
 use Rattle.host.proofs.CallLaws.{gate-misfit, gate-fits}
 use Rattle.host.proofs.fm8502_gate_run.Statement.{statement}
 use Rattle.host.proofs.fm8502_gate_run.Tie as tie
 
-state-fits-requires : tie.Need-state-fits-requires
-state-fits-requires c κs = search needs
+state-lent-requires : tie.Need-state-lent-requires
+state-lent-requires c κs = search needs
 
 same-length : tie.Need-same-length
 same-length c = search needs
 
 returns : tie.Need-returns
-returns c = gate-misfit _ _ _ _ _ (refuted (c .before .state-fits .ensures) (c .if1 .taken))
-
-state-in-requires : tie.Need-state-in-requires
-state-in-requires c κs = state-readable _ _ (granted (c .before .before .before .state-fits .ensures) (c .before .before .if1 .left))
+returns c = gate-misfit _ _ _ _ _ _ (c .before .before .state-lent .ensures) (c .if1 .taken)
 
 run-requires : tie.Need-run-requires
 run-requires c κs = search needs
@@ -34,16 +29,15 @@ same-length-4 : tie.Need-same-length-4
 same-length-4 c = search needs
 
 returns-2 : tie.Need-returns-2
-returns-2 c = gate-fits _ _ _ _ _ (granted (c .before .before .before .before .before .before .before .before .before .before .before .before .before .before .before .state-fits .ensures) (c .before .before .before .before .before .before .before .before .before .before .before .before .before .before .if1 .left)) _ (c .before .before .before .before .before .before .before .before .before .before .before .state-in .ensures) _ _ (c .before .before .before .before .before .before .before .before .before .before .run .ensures .result) (c .before .before .before .before .before .before .before .before .before .before .run .ensures .words) _ _ _ (c .before .before .before .before .end-gate-run .ensures)
+returns-2 c = gate-fits _ _ _ _ _ _ (c .before .before .before .before .before .before .before .before .before .before .before .before .before .before .state-lent .ensures) (c .before .before .before .before .before .before .before .before .before .before .before .before .if1 .left) _ _ (c .before .before .before .before .before .before .before .before .before .before .run .ensures .result) (c .before .before .before .before .before .before .before .before .before .before .run .ensures .words) _ _ _ (c .before .before .before .before .end-gate-run .ensures)
 
 pub fm8502-gate-run-spec : {M : Type 1} → statement M
 fm8502-gate-run-spec =
     tie.close
     (tie.spec
-    state-fits-requires
+    state-lent-requires
     same-length
     returns
-    state-in-requires
     run-requires
     end-gate-run-requires
     same-length-2

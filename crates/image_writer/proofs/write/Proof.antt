@@ -1,55 +1,68 @@
-use Prim.Native.Nat.{_+_, _*_}
+use Prim.Native.Nat.{_+_}
 use mathlib.Core.Path.{_≡_, sym, _∙_}
 use native.Mathlib.Omega.{arith}
 use lib.ListN.{length}
 use borrow.Author.Needs.{needs}
-use Rattle.image.specs.Format.{fieldsFor, imageOf}
+use Rattle.image.specs.Format.{spanOf, imageOf}
 use Rattle.image.proofs.Laws.{size}
-use Rattle.image_writer.proofs.Answers.{no-words, too-many-words, short-output, written}
+use Rattle.image.proofs.Outcomes.{memory-bounds}
+use Rattle.image_writer.proofs.Answers.{refused-memory, short-output, written}
 use Rattle.image_writer.proofs.write.Statement.{statement}
 use Rattle.image_writer.proofs.write.Tie as tie
 
-image-length : (c : tie.Start) → length (imageOf 1 (c .args .machine) (c .args .memory .now)) ≡ 56 + 4 * length (c .args .memory .now) + 3 * fieldsFor (length (c .args .memory .now))
-image-length c = size 1 (c .args .machine) (c .args .memory .now) (search needs)
+image-length : (c : tie.Start) → length (imageOf 1 (c .args .machine) (c .args .memory .now)) ≡ 56 + spanOf (length (c .args .memory .now))
+image-length c = let eight : length (c .args .machine .regs) ≡ 8 = search needs in omega (arith, size 1 (c .args .machine) (c .args .memory .now) eight)
 
-returns : tie.Need-returns
-returns c = let a = c .before .before .before .args in no-words (a .memory .now) (a .machine) (a .out .now) (c .if1 .taken)
+memory-fits-requires : tie.Need-memory-fits-requires
+memory-fits-requires c κs = search needs
 
-returns-2 : tie.Need-returns-2
-returns-2 c = let a = c .before .before .before .before .args in too-many-words (a .memory .now) (a .machine) (a .out .now) (c .before .if1 .left) (c .if2 .taken)
+enum-known-why : tie.Need-enum-known-why
+enum-known-why c = search needs
+
+enum-told : tie.Need-enum-told
+enum-told c = search needs
 
 image-size-requires : tie.Need-image-size-requires
-image-size-requires c κs = search needs
+image-size-requires c κs = memory-bounds (c .before .before .before .before .before .args .memory .now) (sym (c .before .before .memory-fits .ensures) ∙ c .enum-told .given .1) .1
 
-returns-3 : tie.Need-returns-3
-returns-3 c =
-    let start = c .before .before .before .before .before .before in
+returns : tie.Need-returns
+returns c =
+    let start = c .before .before .before .before .before .before .before in
     let a = start .args in
-    short-output (a .memory .now) (a .machine) (a .out .now) (c .before .before .before .if1 .left) (c .before .before .if2 .left)
-    (omega (arith, c .if3 .taken, c .before .image-size .ensures, image-length start))
+    short-output (a .memory .now) (a .machine) (a .out .now) (sym (c .before .before .enum-told .given .1) ∙ c .before .before .before .before .memory-fits .ensures)
+    (omega (arith, c .if1 .taken, c .before .image-size .ensures, image-length start))
 
 put-image-requires : tie.Need-put-image-requires
-put-image-requires c κs = search needs
+put-image-requires c κs =
+    let fits = sym (c .before .before .before .before .before .memory-fits .ensures) ∙ c .before .before .before .enum-told .given .1 in
+    (memory-bounds (c .before .before .before .before .before .before .before .before .args .memory .now) fits .1, omega (arith, c .before .before .image-size .ensures, c .before .if1 .left))
+
+returns-2 : tie.Need-returns-2
+returns-2 c =
+    let a = c .before .before .before .before .before .before .args in
+    refused-memory (a .memory .now) (a .machine) (a .out .now) (sym (c .before .why .given .1) ∙ c .before .before .before .memory-fits .ensures)
 
 same-length : tie.Need-same-length
 same-length c = search needs
 
-returns-4 : tie.Need-returns-4
-returns-4 c =
-    let start = c .before .before .before .before .before .before .before .before .before .before in
+returns-3 : tie.Need-returns-3
+returns-3 c =
+    let start = c .before .before .before .before .before .before .before .before .before .before .before in
     let a = start .args in
     let n = c .before .before .before .before .before .image-size .ensures in
-    written (a .memory .now) (a .machine) (a .out .now) (c .before .before .before .before .before .before .before .if1 .left) _ _ (c .before .before .before .before .before .before .if2 .left)
-    (omega (arith, c .before .before .before .before .if3 .left, n, image-length start)) (c .before .before .put-image .ensures) (n ∙ sym (image-length start))
+    written (a .memory .now) (a .machine) (a .out .now) (sym (c .before .before .before .before .before .before .enum-told .given .1) ∙ c .before .before .before .before .before .before .before .before .memory-fits .ensures) _ _
+    (omega (arith, c .before .before .before .before .if1 .left, n, image-length start)) (c .before .before .put-image .ensures) (n ∙ sym (image-length start))
 
 pub write-spec : {M : Type 1} → statement M
 write-spec =
     tie.close
     (tie.spec
-    returns
-    returns-2
+    memory-fits-requires
+    enum-known-why
+    enum-told
     image-size-requires
-    returns-3
+    returns
     put-image-requires
+    returns-2
     same-length
-    returns-4)
+    returns-3)

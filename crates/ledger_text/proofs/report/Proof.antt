@@ -1,4 +1,4 @@
--- `ledger_text::report` meets its contract. Assumes nothing.
+-- `ledger_text::report` meets its contract.
 use mathlib.Core.Path.{sym}
 use lib.Seq.{length-take-le}
 use borrow.Author.Needs.{needs}

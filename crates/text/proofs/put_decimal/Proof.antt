@@ -1,4 +1,4 @@
--- `text::put_decimal` meets its contract. Assumes nothing.
+-- `text::put_decimal` meets its contract.
 use mathlib.Core.Path.{sym, _∙_}
 use native.Mathlib.Omega.{arith}
 use borrow.Author.Needs.{needs}

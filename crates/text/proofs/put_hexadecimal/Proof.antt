@@ -1,4 +1,4 @@
--- `text::put_hexadecimal` meets its contract. Assumes nothing.
+-- `text::put_hexadecimal` meets its contract.
 use mathlib.Core.Path.{sym}
 use borrow.Author.Needs.{needs}
 use Rattle.text.proofs.Figures.{length-digits}

@@ -1,5 +1,5 @@
 use borrow.Author.Needs.{needs}
-use Rattle.instruction.proofs.Operands.{absent}
+use Rattle.operands.proofs.Operands.{absent}
 use Rattle.model.specs.Waits.{waitAt}
 use Rattle.gate_machine.proofs.access.wait_at.Statement.{statement}
 use Rattle.gate_machine.proofs.access.wait_at.Tie as tie

@@ -3,7 +3,7 @@ use mathlib.Core.Path.{_≡_, refl, ap, _∙_}
 use native.Mathlib.Omega.{arith}
 use lib.ListN.{length}
 use borrow.Author.Needs.{needs}
-use Rattle.gate_machine.proofs.Settles.{short, row-there}
+use Rattle.model.proofs.Valid.{short, row-there}
 use Rattle.gate_machine.proofs.Laws.{digit-small, step-there, turn}
 use Rattle.gate_rows.specs.Work.{stateOf}
 use Rattle.model.proofs.Progress.{finished-slow}

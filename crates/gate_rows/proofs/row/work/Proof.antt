@@ -31,8 +31,8 @@ moved-requires c κs = search needs
 operand-a-requires : tie.Need-operand-a-requires
 operand-a-requires c κs = search needs
 
-prepare-a-requires : tie.Need-prepare-a-requires
-prepare-a-requires c κs = search needs
+prepare-requires : tie.Need-prepare-requires
+prepare-requires c κs = search needs
 
 wide-requires-2 : tie.Need-wide-requires-2
 wide-requires-2 c κs = search needs
@@ -46,8 +46,8 @@ latch-a-requires c κs = search needs
 operand-b-requires : tie.Need-operand-b-requires
 operand-b-requires c κs = search needs
 
-prepare-b-requires : tie.Need-prepare-b-requires
-prepare-b-requires c κs = search needs
+prepare-requires-2 : tie.Need-prepare-requires-2
+prepare-requires-2 c κs = search needs
 
 wide-requires-3 : tie.Need-wide-requires-3
 wide-requires-3 c κs = search needs
@@ -110,7 +110,7 @@ returns-3 : tie.Need-returns-3
 returns-3 c = by (c .before .before .before .before .before .args .step) (c .before .before .before .before .before .args .s) (c .before .before .before .before .before .args .regs .now) (c .before .before .before .before .before .args .memory .now) 2 (c .before .before .before .match .keys3) (c .moved .ensures _ ∙ rw (c .before .step-pc .ensures)) refl
 
 returns-4 : tie.Need-returns-4
-returns-4 c = by (c .before .before .before .before .before .args .step) (c .before .before .before .before .before .args .s) (c .before .before .before .before .before .args .regs .now) (c .before .before .before .before .before .args .memory .now) 3 (c .before .before .before .match .keys4) (rw (c .before .before .operand-a .ensures) at (c .prepare-a .ensures) ∙ prepares (c .before .before .before .before .before .args .step) (operandA (c .before .before .before .before .before .args .s .instruction)) withA (stateOf (c .before .before .before .before .before .args .regs .now) (c .before .before .before .before .before .args .s)) 4 5) refl
+returns-4 c = by (c .before .before .before .before .before .args .step) (c .before .before .before .before .before .args .s) (c .before .before .before .before .before .args .regs .now) (c .before .before .before .before .before .args .memory .now) 3 (c .before .before .before .match .keys4) (rw (c .before .before .operand-a .ensures) at (c .prepare .ensures) ∙ prepares (c .before .before .before .before .before .args .step) (operandA (c .before .before .before .before .before .args .s .instruction)) withA (stateOf (c .before .before .before .before .before .args .regs .now) (c .before .before .before .before .before .args .s)) 4 5) refl
 
 same-length-2 : tie.Need-same-length-2
 same-length-2 c = search needs
@@ -119,7 +119,7 @@ returns-5 : tie.Need-returns-5
 returns-5 c = by (c .before .before .before .before .before .before .args .step) (c .before .before .before .before .before .before .args .s) (c .before .before .before .before .before .before .args .regs .now) (c .before .before .before .before .before .before .args .memory .now) 4 (c .before .before .before .before .match .keys5) (c .latch-a .ensures _ ∙ rw (c .before .load2 .ensures, c .before .before .wide2 .ensures)) refl
 
 returns-6 : tie.Need-returns-6
-returns-6 c = by (c .before .before .before .before .before .args .step) (c .before .before .before .before .before .args .s) (c .before .before .before .before .before .args .regs .now) (c .before .before .before .before .before .args .memory .now) 5 (c .before .before .before .match .keys6) (rw (c .before .before .operand-b .ensures) at (c .prepare-b .ensures) ∙ prepares (c .before .before .before .before .before .args .step) (operandB (c .before .before .before .before .before .args .s .instruction)) withB (stateOf (c .before .before .before .before .before .args .regs .now) (c .before .before .before .before .before .args .s)) 6 7) refl
+returns-6 c = by (c .before .before .before .before .before .args .step) (c .before .before .before .before .before .args .s) (c .before .before .before .before .before .args .regs .now) (c .before .before .before .before .before .args .memory .now) 5 (c .before .before .before .match .keys6) (rw (c .before .before .operand-b .ensures) at (c .prepare2 .ensures) ∙ prepares (c .before .before .before .before .before .args .step) (operandB (c .before .before .before .before .before .args .s .instruction)) withB (stateOf (c .before .before .before .before .before .args .regs .now) (c .before .before .before .before .before .args .s)) 6 7) refl
 
 same-length-3 : tie.Need-same-length-3
 same-length-3 c = search needs
@@ -160,12 +160,12 @@ work-spec =
     step-pc-requires
     moved-requires
     operand-a-requires
-    prepare-a-requires
+    prepare-requires
     wide-requires-2
     load-requires-2
     latch-a-requires
     operand-b-requires
-    prepare-b-requires
+    prepare-requires-2
     wide-requires-3
     load-requires-3
     latch-b-requires

@@ -20,7 +20,11 @@ add-result : tie.Need-add-result
 add-result c = search needs
 
 returns : tie.Need-returns
-returns c = omega (arith, two-bytes (c .before .before .before .args .bytes .now) (c .before .before .before .args .at))
+returns c =
+    let a = c .before .before .before .args in
+    let first = c .before .byte-at .ensures in
+    let second = c .byte-at2 .ensures in
+    record { is = omega (arith, first .is, second .is, two-bytes (a .bytes .now) (a .at)); small = omega (arith, first .small, second .small) }
 
 pub pair-at-spec : {M : Type 1} → statement M
 pair-at-spec =

@@ -25,11 +25,26 @@ add-byte-in-3 c = search needs
 byte-in-requires-4 : tie.Need-byte-in-requires-4
 byte-in-requires-4 c κs = search needs
 
-word-of-requires : tie.Need-word-of-requires
-word-of-requires c κs = search needs
+mul-result : tie.Need-mul-result
+mul-result c = search needs
+
+add-result : tie.Need-add-result
+add-result c = search needs
+
+mul-result-2 : tie.Need-mul-result-2
+mul-result-2 c = search needs
+
+add-result-2 : tie.Need-add-result-2
+add-result-2 c = search needs
+
+mul-result-3 : tie.Need-mul-result-3
+mul-result-3 c = search needs
+
+add-result-3 : tie.Need-add-result-3
+add-result-3 c = search needs
 
 returns : tie.Need-returns
-returns c = omega (arith, four-bytes (c .before .before .before .before .before .before .args .bytes .now) (c .before .before .before .before .before .before .args .at))
+returns c = let a = c .before .before .before .before .before .args in omega (arith, four-bytes (a .bytes .now) (a .at))
 
 pub word-in-spec : {M : Type 1} → statement M
 word-in-spec =
@@ -42,5 +57,10 @@ word-in-spec =
     byte-in-requires-3
     add-byte-in-3
     byte-in-requires-4
-    word-of-requires
+    mul-result
+    add-result
+    mul-result-2
+    add-result-2
+    mul-result-3
+    add-result-3
     returns)

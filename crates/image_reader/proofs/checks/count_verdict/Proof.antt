@@ -17,24 +17,24 @@ word-count-requires c κs = search needs
 cast-held : tie.Need-cast-held
 cast-held c = search needs
 
-demand-that-requires : tie.Need-demand-that-requires
-demand-that-requires c κs = search needs
+demand-requires : tie.Need-demand-requires
+demand-requires c κs = search needs
 
-demand-that-requires-2 : tie.Need-demand-that-requires-2
-demand-that-requires-2 c κs = search needs
+demand-requires-2 : tie.Need-demand-requires-2
+demand-requires-2 c κs = search needs
 
-first-requires : tie.Need-first-requires
-first-requires c κs = search needs
+then-requires : tie.Need-then-requires
+then-requires c κs = search needs
 
-first-requires-2 : tie.Need-first-requires-2
-first-requires-2 c κs = search needs
+then-requires-2 : tie.Need-then-requires-2
+then-requires-2 c κs = search needs
 
 returns : tie.Need-returns
 returns c =
     let a = c .before .before .before .before .before .before .before .args in
-    with-rule (countField (a .room)) (drop 46 (a .bytes .now)) (c .first2 .ensures) (c .before .before .before .before .before .header-verdict .ensures)
-    (c .before .first .ensures
-    ∙ ap₂ (λ (x y : Verdict). x then y) (c .before .before .before .demand-that .ensures) (c .before .before .demand-that2 .ensures)
+    with-rule (countField (a .room)) (drop 46 (a .bytes .now)) (c .then2 .ensures) (c .before .before .before .before .before .header-verdict .ensures)
+    (c .before .then .ensures
+    ∙ ap₂ (λ (x y : Verdict). x then y) (c .before .before .before .demand .ensures) (c .before .before .demand2 .ensures)
     ∙ count-rule (a .bytes .now) _ (a .room) (c .before .before .before .before .word-count .ensures))
 
 pub count-verdict-spec : {M : Type 1} → statement M
@@ -44,8 +44,8 @@ count-verdict-spec =
     header-verdict-requires
     word-count-requires
     cast-held
-    demand-that-requires
-    demand-that-requires-2
-    first-requires
-    first-requires-2
+    demand-requires
+    demand-requires-2
+    then-requires
+    then-requires-2
     returns)

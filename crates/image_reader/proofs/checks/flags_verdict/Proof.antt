@@ -1,5 +1,10 @@
-use mathlib.Core.Path.{_∙_}
+use Prim.Native.Nat.{ℕ}
+use mathlib.Core.Path.{sym, _∙_}
+use mathlib.Core.Bool.{_&&_}
+use mathlib.Core.List.{List}
+use lib.Dec.{leb}
 use lib.ListN.{drop}
+use lib.Seq.{getD-drop}
 use borrow.Author.Needs.{needs}
 use Rattle.image.specs.Format.{flagsField}
 use Rattle.image_reader.proofs.Headers.{with-rule, flags-rule}
@@ -9,27 +14,43 @@ use Rattle.image_reader.proofs.checks.flags_verdict.Tie as tie
 header-verdict-requires : tie.Need-header-verdict-requires
 header-verdict-requires c κs = search needs
 
-flags-fit-requires : tie.Need-flags-fit-requires
-flags-fit-requires c κs = search needs
+byte-at-requires : tie.Need-byte-at-requires
+byte-at-requires c κs = search needs
 
-demand-that-requires : tie.Need-demand-that-requires
-demand-that-requires c κs = search needs
+byte-at-requires-2 : tie.Need-byte-at-requires-2
+byte-at-requires-2 c κs = search needs
 
-first-requires : tie.Need-first-requires
-first-requires c κs = search needs
+byte-at-requires-3 : tie.Need-byte-at-requires-3
+byte-at-requires-3 c κs = search needs
+
+byte-at-requires-4 : tie.Need-byte-at-requires-4
+byte-at-requires-4 c κs = search needs
+
+demand-requires : tie.Need-demand-requires
+demand-requires c κs = search needs
+
+then-requires : tie.Need-then-requires
+then-requires c κs = search needs
 
 returns : tie.Need-returns
 returns c =
-    let bytes = c .before .before .before .before .before .args .bytes .now in
-    with-rule flagsField (drop 39 bytes) (c .first .ensures) (c .before .before .before .header-verdict .ensures)
-    (c .before .demand-that .ensures ∙ flags-rule bytes _ (c .before .before .flags-fit .ensures))
+    let bytes : List ℕ = c .before .before .before .before .before .before .before .before .args .bytes .now in
+    let e₀ = c .before .before .before .before .before .byte-at .ensures .is ∙ sym (getD-drop 42 bytes 0 0) in
+    let e₁ = c .before .before .before .before .byte-at2 .ensures .is ∙ sym (getD-drop 42 bytes 1 0) in
+    let e₂ = c .before .before .before .byte-at3 .ensures .is ∙ sym (getD-drop 42 bytes 2 0) in
+    let e₃ = c .before .before .byte-at4 .ensures .is ∙ sym (getD-drop 42 bytes 3 0) in
+    with-rule flagsField (drop 39 bytes) (c .then .ensures) (c .before .before .before .before .before .before .header-verdict .ensures)
+    (c .before .demand .ensures ∙ flags-rule bytes _ (λ i. leb (e₀ i) 1 && leb (e₁ i) 1 && leb (e₂ i) 1 && leb (e₃ i) 1))
 
 pub flags-verdict-spec : {M : Type 1} → statement M
 flags-verdict-spec =
     tie.close
     (tie.spec
     header-verdict-requires
-    flags-fit-requires
-    demand-that-requires
-    first-requires
+    byte-at-requires
+    byte-at-requires-2
+    byte-at-requires-3
+    byte-at-requires-4
+    demand-requires
+    then-requires
     returns)

@@ -15,19 +15,19 @@ flags-verdict-requires c κs = search needs
 count-verdict-requires : tie.Need-count-verdict-requires
 count-verdict-requires c κs = search needs
 
-first-requires : tie.Need-first-requires
-first-requires c κs = search needs
+then-requires : tie.Need-then-requires
+then-requires c κs = search needs
 
-first-requires-2 : tie.Need-first-requires-2
-first-requires-2 c κs = search needs
+then-requires-2 : tie.Need-then-requires-2
+then-requires-2 c κs = search needs
 
-first-requires-3 : tie.Need-first-requires-3
-first-requires-3 c κs = search needs
+then-requires-3 : tie.Need-then-requires-3
+then-requires-3 c κs = search needs
 
 returns : tie.Need-returns
 returns c =
     let a = c .before .before .before .before .before .before .before .before .args in
-    head-of (a .bytes .now) (a .room) (c .first3 .ensures) (c .before .first2 .ensures) (c .before .before .first .ensures)
+    head-of (a .bytes .now) (a .room) (c .then3 .ensures) (c .before .then2 .ensures) (c .before .before .then .ensures)
     (c .before .before .before .before .before .before .version-verdict .ensures) (c .before .before .before .before .before .header-verdict .ensures) (c .before .before .before .before .flags-verdict .ensures) (c .before .before .before .count-verdict .ensures)
 
 pub head-verdict-spec : {M : Type 1} → statement M
@@ -38,7 +38,7 @@ head-verdict-spec =
     header-verdict-requires
     flags-verdict-requires
     count-verdict-requires
-    first-requires
-    first-requires-2
-    first-requires-3
+    then-requires
+    then-requires-2
+    then-requires-3
     returns)

@@ -1,10 +1,11 @@
-use Prim.Native.Nat.{ℕ, _+_, _-_, _≤_, _<_}
-use mathlib.Core.Path.{_≡_, refl, sym, ap, _∙_}
+use Prim.Native.Nat.{_+_, _-_, _≤_, _<_}
+use mathlib.Core.Path.{_≡_, refl, sym, _∙_}
 use native.Mathlib.Omega.{arith}
 use borrow.Author.Needs.{needs}
-use Rattle.image_reader.proofs.Turns.{tail-refused, tail-goes, span-step, tail-end}
-use Rattle.image_reader.specs.Layout.{spanOf, tailVerdict}
-use Rattle.image.specs.Format.{fieldsFor}
+use Rattle.image_reader.proofs.Turns.{tail-refused, tail-goes, tail-end}
+use Rattle.image_reader.specs.Layout.{tailVerdict}
+use Rattle.image.specs.Format.{fieldsFor, spanOf}
+use Rattle.image.proofs.MemoryLaws.{span-step}
 use Rattle.image_reader.proofs.checks.tail_verdict.Statement.{statement}
 use Rattle.image_reader.proofs.checks.tail_verdict.Tie as tie
 
@@ -66,18 +67,28 @@ loop-again c =
     let l = c .before .before .before .before .before .loop in
     let test : 0 < l .left = omega (arith, c .before .before .before .before .loop-test .taken) in
     let e = c .before .before .before .words-in-field .ensures in
-    (omega arith, sym (span-step (l .left) (l .at) _ (a .bytes .now) test e) ∙ l .inv .1, tail-goes (l .left) (l .at) _ (a .bytes .now) test e (c .enum-told .given .1) (c .before .before .header-verdict .ensures) (l .inv .2))
+    (omega arith, sym (span-step (l .at) (l .left) _ test e) ∙ l .inv .1, tail-goes (l .left) (l .at) _ (a .bytes .now) test e (c .enum-told .given .1) (c .before .before .header-verdict .ensures) (l .inv .2))
 
-end-verdict-requires : tie.Need-end-verdict-requires Inv-loop μ-loop
+header-verdict-requires-2 : tie.Need-header-verdict-requires-2 Inv-loop μ-loop
 unfolding fieldsFor
-end-verdict-requires c κs = omega arith
+header-verdict-requires-2 c κs = omega arith
+
+add-last : tie.Need-add-last Inv-loop μ-loop
+unfolding fieldsFor
+add-last c = omega arith
+
+demand-requires : tie.Need-demand-requires Inv-loop μ-loop
+demand-requires c κs = tt
+
+then-requires : tie.Need-then-requires Inv-loop μ-loop
+then-requires c κs = tt
 
 returns-2 : tie.Need-returns-2 Inv-loop μ-loop
 returns-2 c =
-    let a = c .before .before .before .before .args in
-    let l = c .before .before .loop in
-    let z : 0 ≡ l .left = omega arith in
-    c .end-verdict .ensures ∙ sym (tail-end (l .at) (a .bytes .now)) ∙ ap (λ (n : ℕ). tailVerdict n (l .at) (a .bytes .now)) z ∙ l .inv .2
+    let a = c .before .before .before .before .before .before .args in
+    let l = c .before .before .before .before .loop in
+    let z : l .left ≡ 0 = omega arith in
+    tail-end (l .left) (l .at) (a .bytes .now) z (c .then .ensures) (c .before .before .header-verdict2 .ensures) (c .before .demand .ensures) (l .inv .2)
 
 pub tail-verdict-spec : {M : Type 1} → statement M
 tail-verdict-spec =
@@ -99,5 +110,8 @@ tail-verdict-spec =
     sub-left
     loop-less
     loop-again
-    end-verdict-requires
+    header-verdict-requires-2
+    add-last
+    demand-requires
+    then-requires
     returns-2)

@@ -11,19 +11,19 @@ header-verdict-requires c κs = search needs
 byte-at-requires : tie.Need-byte-at-requires
 byte-at-requires c κs = search needs
 
-demand-that-requires : tie.Need-demand-that-requires
-demand-that-requires c κs = search needs
+demand-requires : tie.Need-demand-requires
+demand-requires c κs = search needs
 
-first-requires : tie.Need-first-requires
-first-requires c κs = search needs
+then-requires : tie.Need-then-requires
+then-requires c κs = search needs
 
 returns : tie.Need-returns
 returns c =
     let bytes = c .before .before .before .before .before .args .bytes .now in
-    with-rule versionField bytes (c .first .ensures) (c .before .before .before .header-verdict .ensures)
-    (c .before .demand-that .ensures ∙ version-rule bytes _ (c .before .before .byte-at .ensures .is))
+    with-rule versionField bytes (c .then .ensures) (c .before .before .before .header-verdict .ensures)
+    (c .before .demand .ensures ∙ version-rule bytes _ (c .before .before .byte-at .ensures .is))
 
 pub version-verdict-spec : {M : Type 1} → statement M
 version-verdict-spec =
     tie.close
-    (tie.spec header-verdict-requires byte-at-requires demand-that-requires first-requires returns)
+    (tie.spec header-verdict-requires byte-at-requires demand-requires then-requires returns)

@@ -8,9 +8,10 @@ use lib.Seq.{sets}
 use Rattle.image.specs.Bytes.{wordsIn}
 use Rattle.image.proofs.BytesLaws.{length-words}
 use Rattle.image.proofs.Stores.{store-step, store-end}
-use Rattle.image_reader.proofs.Turns.{span-step, memory-step}
-use Rattle.image_reader.specs.Layout.{spanOf, memoryIn}
-use Rattle.image.specs.Format.{fieldsFor, wordsPerField}
+use Rattle.image_reader.proofs.Turns.{memory-step}
+use Rattle.image_reader.specs.Layout.{memoryIn}
+use Rattle.image.specs.Format.{wordsPerField, fieldsFor, spanOf}
+use Rattle.image.proofs.MemoryLaws.{span-turn}
 use Rattle.image_reader.proofs.loads.load_memory.Statement.{statement}
 use Rattle.image_reader.proofs.loads.load_memory.Tie as tie
 
@@ -69,12 +70,11 @@ loop-again c =
     let count : ℕ = c .before .before .before .before .words-in-field .result in
     let e : count ≡ min wordsPerField left = c .before .before .before .before .words-in-field .ensures in
     let q : left - count ≡ a .words - (l .from + count) = omega arith in
-    let s : l .at + spanOf left ≡ l .at + 3 + 4 * count + spanOf (left - count) = span-step left (l .at) count bytes (omega arith) e in
     let p = memory-step left (l .at) count bytes (omega arith) e ∙ ap (λ (n : ℕ). wordsIn count (drop (l .at + 3) bytes) ++ memoryIn (fieldsFor n) n (drop (l .at + 3 + 4 * count) bytes)) q in
     let lw : length (wordsIn count (drop (l .at + 3) bytes)) ≡ count = length-words count (drop (l .at + 3) bytes) in (
       omega arith,
       w .kept .1 .1 .0 ∙ l .inv .1,
-      ap (λ (n : ℕ). l .at + 3 + 4 * count + spanOf n) (sym q) ∙ sym s ∙ l .inv .2,
+      span-turn (l .at) (a .words) (l .from) count test e ∙ l .inv .2,
       store-step (l .memory) _ (l .from) (l .from + count) (wordsIn count (drop (l .at + 3) bytes)) _ _ (w .ensures) (omega arith)
           (ap (sets (l .memory) (l .from)) (sym p) ∙ l .inv .3),
     )

@@ -1,10 +1,6 @@
-use Prim.Native.Nat.{ℕ}
-use mathlib.Core.Path.{ap₂}
-use mathlib.Core.List.{[], _∷_}
 use native.Mathlib.Numerals.{add-one, add-two}
 use native.Mathlib.Omega.{arith}
 use lib.ListN.{length-set}
-use lib.Seq.{sets}
 use borrow.Author.Needs.{needs}
 use Rattle.image.specs.Bytes.{bytesOf}
 use Rattle.image_writer.proofs.bytes.put_header.Statement.{statement}
@@ -13,8 +9,8 @@ use Rattle.image_writer.proofs.bytes.put_header.Tie as tie
 slice-write-out : tie.Need-slice-write-out
 slice-write-out c = search needs
 
-low-requires : tie.Need-low-requires
-low-requires c κs = search needs
+cast-out : tie.Need-cast-out
+cast-out c = search needs
 
 add-out : tie.Need-add-out
 add-out c = search needs
@@ -22,8 +18,8 @@ add-out c = search needs
 slice-write-out-2 : tie.Need-slice-write-out-2
 slice-write-out-2 c = simp length-set (omega arith)
 
-low-requires-2 : tie.Need-low-requires-2
-low-requires-2 c κs = search needs
+cast-out-2 : tie.Need-cast-out-2
+cast-out-2 c = search needs
 
 add-out-2 : tie.Need-add-out-2
 add-out-2 c = search needs
@@ -36,19 +32,17 @@ same-length c = simp length-set
 
 returns : tie.Need-returns
 unfolding bytesOf
-returns c =
-    let a = c .before .before .before .args in
-    rw (add-one, add-two) (ap₂ (λ (x y : ℕ). sets (a .out .now) (a .at) (a .tag ∷ x ∷ y ∷ [])) (c .before .low .ensures) (c .low2 .ensures))
+returns c = rw (add-one, add-two)
 
 pub put-header-spec : {M : Type 1} → statement M
 put-header-spec =
     tie.close
     (tie.spec
     slice-write-out
-    low-requires
+    cast-out
     add-out
     slice-write-out-2
-    low-requires-2
+    cast-out-2
     add-out-2
     slice-write-out-3
     same-length

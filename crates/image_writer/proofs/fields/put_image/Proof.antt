@@ -12,8 +12,8 @@ image-size-requires c κs = search needs
 sub-end : tie.Need-sub-end
 sub-end c = search needs
 
-put-version-requires : tie.Need-put-version-requires
-put-version-requires c κs = search needs
+put-four-requires : tie.Need-put-four-requires
+put-four-requires c κs = search needs
 
 put-registers-requires : tie.Need-put-registers-requires
 put-registers-requires c κs = search needs
@@ -50,9 +50,9 @@ returns c =
     let size = k₁ .before .before .before .before .image-size in
     let start = k₁ .before .before .before .before .before .before .before in
     let a = start .args in
-    image-put 1 (a .machine) (a .memory .now) (a .out .now) (k₁ .put-version .last .0) (k₂ .put-registers .last .0) (k₃ .put-flags .last .0)
+    image-put 1 (a .machine) (a .memory .now) (a .out .now) (k₁ .put-four .last .0) (k₂ .put-registers .last .0) (k₃ .put-flags .last .0)
     (k₄ .put-count .last .0) (k₅ .put-memory .last .1 .0) _ _ (eight start) (omega (arith, size .ensures))
-    (k₁ .put-version .ensures) (k₂ .put-registers .ensures) (k₃ .put-flags .ensures) (k₄ .put-count .ensures) (k₅ .put-memory .ensures) (k₆ .put-header .ensures)
+    (k₁ .put-four .ensures) (k₂ .put-registers .ensures) (k₃ .put-flags .ensures) (k₄ .put-count .ensures) (k₅ .put-memory .ensures) (k₆ .put-header .ensures)
 
 pub put-image-spec : {M : Type 1} → statement M
 put-image-spec =
@@ -60,7 +60,7 @@ put-image-spec =
     (tie.spec
     image-size-requires
     sub-end
-    put-version-requires
+    put-four-requires
     put-registers-requires
     put-flags-requires
     cast-put-count

@@ -1,4 +1,4 @@
-use Prim.Native.Nat.{ℕ, _+_, _*_, _-_, _≤_, min}
+use Prim.Native.Nat.{ℕ, _+_, _-_, _≤_, min}
 use mathlib.Core.Path.{_≡_, refl, sym, ap, _∙_}
 use mathlib.Core.List.{List}
 use native.Mathlib.Nat.{sub-zero}
@@ -6,7 +6,8 @@ use native.Mathlib.Omega.{arith}
 use lib.ListN.{length, take, drop}
 use lib.Seq.{sets}
 use Rattle.image.specs.Bytes.{wordBytes}
-use Rattle.image.specs.Format.{fieldBytes, wordsField, wordsPerField, fieldsFor, memoryFields}
+use Rattle.image.specs.Format.{fieldBytes, wordsField, wordsPerField, fieldsFor, spanOf, memoryFields}
+use Rattle.image.proofs.MemoryLaws.{span-turn}
 use Rattle.image.proofs.Stores.{store-step, store-end}
 use Rattle.image_writer.proofs.Puts.{next-field, length-word-field}
 use Rattle.image_writer.proofs.fields.put_memory.Statement.{statement}
@@ -16,7 +17,7 @@ use Rattle.image_writer.proofs.fields.put_memory.Tie as tie
 abbrev Inv-loop : tie.InvT-loop
 Inv-loop memory out₀ start at₀ from₀ out at from =
     (from ≤ length memory) × (length out ≡ length out₀)
-    × (at + (4 * (length memory - from) + 3 * fieldsFor (length memory - from)) ≤ length out₀)
+    × (at + spanOf (length memory - from) ≤ length out₀)
     × (sets out at (memoryFields (fieldsFor (length memory - from)) (drop from memory)) ≡ sets out₀ start (memoryFields (fieldsFor (length memory)) memory))
 
 abbrev μ-loop : tie.MeasureT-loop
@@ -54,7 +55,6 @@ loop-less : tie.Need-loop-less Inv-loop μ-loop
 loop-less c = omega arith
 
 loop-again : tie.Need-loop-again Inv-loop μ-loop
-unfolding fieldsFor
 loop-again c =
     let a = c .before .before .before .before .before .before .before .before .before .args in
     let l = c .before .before .before .before .before .before .loop in
@@ -66,7 +66,7 @@ loop-again c =
     let lf = length-word-field memory (l .from) count (omega arith) in (
       omega arith,
       w .kept .1 .1 .1 .0 ∙ l .inv .1,
-      omega arith,
+      omega (arith, span-turn (l .at) (length memory) (l .from) count test e, l .inv .2),
       store-step (l .out) _ (l .at) _ (fieldBytes (wordsField count) (wordBytes (take count (drop (l .from) memory)))) _ _ (w .ensures) (omega arith)
           (ap (sets (l .out) (l .at)) (sym (next-field memory (l .from) count test e)) ∙ l .inv .3),
     )

@@ -1,6 +1,6 @@
 use native.Mathlib.Omega.{arith}
 use borrow.Author.Needs.{needs}
-use Rattle.instruction.proofs.Packing.{digit-small}
+use Rattle.effects.proofs.Packing.{digit-small}
 use Rattle.interpreter.proofs.clocks.cost.Statement.{statement}
 use Rattle.interpreter.proofs.clocks.cost.Tie as tie
 

@@ -3,7 +3,7 @@ use native.Mathlib.Omega.{arith}
 use borrow.Author.Tests.{not-true, not-false}
 use borrow.Author.Needs.{needs}
 use Rattle.model.specs.Waits.{waitAt}
-use Rattle.instruction.specs.Packed.{flagsOf}
+use Rattle.model.specs.Packed.{flagsOf}
 use Rattle.step.specs.Steps.{machine}
 use Rattle.interpreter.proofs.RunLaws.{At, begins, clocks-fit, turn, ends-outside, ends-finished, unpackedStart}
 use Rattle.interpreter.proofs.engine.engine.Statement.{statement}

@@ -1,30 +1,25 @@
--- `ledger_text::running::put_run` meets its contract: after so many turns the run so far and its lines. Assumes nothing.
+-- `ledger_text::running::put_run` meets its contract: after so many turns the run so far and its lines.
 use Prim.Native.Nat.{_-_}
-use mathlib.Core.Path.{refl, _∙_}
+use mathlib.Core.Path.{_∙_}
 use native.Mathlib.Omega.{arith}
 use borrow.Author.Needs.{needs}
 use denote.Ref.{now}
-use Rattle.ledger_text.specs.Lines.{header}
-use Rattle.ledger_text.proofs.PartLaws.{start}
 use Rattle.ledger_text.proofs.TurnLaws.{At, begins, at-small, clocks-fit, turn, outside, finished}
 use Rattle.ledger_text.proofs.running.put_run.Statement.{statement}
 use Rattle.ledger_text.proofs.running.put_run.Tie as tie
 
 abbrev Inv-loop : tie.InvT-loop
-Inv-loop memory₀ out₀ no-waits at₀ machine₀ ran₀ clocks₀ t15 t16 memory out at machine ran clocks =
+Inv-loop memory₀ out₀ at₀ machine₀ ran₀ clocks₀ memory out at machine ran clocks =
     At machine₀ memory₀ out₀ at₀ memory out machine at ran clocks
 
 abbrev μ-loop : tie.MeasureT-loop
-μ-loop memory₀ out₀ no-waits at₀ machine₀ ran₀ clocks₀ t15 t16 memory out at machine ran clocks = 16 - ran
+μ-loop memory₀ out₀ at₀ machine₀ ran₀ clocks₀ memory out at machine ran clocks = 16 - ran
 
-slice-aggregate-put-text : tie.Need-slice-aggregate-put-text Inv-loop μ-loop
-slice-aggregate-put-text c = refl
-
-put-text-requires : tie.Need-put-text-requires Inv-loop μ-loop
-put-text-requires c κs = tt
+put-header-requires : tie.Need-put-header-requires Inv-loop μ-loop
+put-header-requires c κs = tt
 
 loop-holds : tie.Need-loop-holds Inv-loop μ-loop
-loop-holds c = begins (c .before .before .before .before .before .before .before .args .start) (now (c .before .before .before .before .before .before .before .args .memory)) (c .before .before .put-text .last .0) (c .before .before .put-text .result)
+loop-holds c = begins (c .before .before .before .before .before .before .args .start) (now (c .before .before .before .before .before .before .args .memory)) (c .before .before .put-header .last .0) (c .before .before .put-header .result)
 
 element-copy-out-address : tie.Need-element-copy-out-address Inv-loop μ-loop
 element-copy-out-address c = search needs
@@ -32,62 +27,51 @@ element-copy-out-address c = search needs
 word-at-requires : tie.Need-word-at-requires Inv-loop μ-loop
 word-at-requires c κs = tt
 
-slice-aggregate-run : tie.Need-slice-aggregate-run Inv-loop μ-loop
-slice-aggregate-run c = refl
-
-run-requires : tie.Need-run-requires Inv-loop μ-loop
-run-requires c κs = tt
-
-slice-aggregate-put-ending : tie.Need-slice-aggregate-put-ending Inv-loop μ-loop
-slice-aggregate-put-ending c = refl
+run-one-requires : tie.Need-run-one-requires Inv-loop μ-loop
+run-one-requires c κs = tt
 
 put-ending-requires : tie.Need-put-ending-requires Inv-loop μ-loop
-put-ending-requires c κs = omega (arith, at-small _ _ _ _ (c .before .before .before .before .before .before .before .before .before .before .before .before .before .loop .inv), c .before .before .before .before .before .before .before .before .before .before .before .before .before .before .before .before .put-text .ensures .size)
+put-ending-requires c κs = omega (arith, at-small _ _ _ _ (c .before .before .before .before .before .before .before .before .before .before .before .loop .inv), c .before .before .before .before .before .before .before .before .before .before .before .before .before .before .put-header .ensures .near)
 
 same-length : tie.Need-same-length Inv-loop μ-loop
-same-length c = c .before .before .before .before .before .before .before .before .before .run .kept .0 ∙ c .before .before .before .before .before .before .before .before .before .before .before .before .before .before .before .before .loop .inv .words
+same-length c = c .before .before .before .before .before .before .before .before .run-one .kept .0 ∙ c .before .before .before .before .before .before .before .before .before .before .before .before .before .before .loop .inv .words
 
 same-length-2 : tie.Need-same-length-2 Inv-loop μ-loop
-same-length-2 c = c .before .before .put-ending .kept .0 ∙ c .before .before .before .before .before .before .before .before .before .before .before .before .before .before .before .before .loop .inv .room ∙ c .before .before .before .before .before .before .before .before .before .before .before .before .before .before .before .before .before .before .before .put-text .kept .0
+same-length-2 c = c .before .before .put-ending .kept .0 ∙ c .before .before .before .before .before .before .before .before .before .before .before .before .before .before .loop .inv .room ∙ c .before .before .before .before .before .before .before .before .before .before .before .before .before .before .before .before .before .put-header .kept .0
 
 returns : tie.Need-returns Inv-loop μ-loop
-unfolding header
 returns c =
-    outside _ _ _ _ (c .before .before .before .before .before .before .before .before .before .before .before .before .before .before .before .before .loop .inv) (c .before .before .before .before .before .before .before .before .before .run .ensures) (omega (arith, c .before .before .before .before .before .before .before .before .before .before .before .before .before .before .before .before .loop .inv .words, c .before .before .before .before .before .before .before .before .before .before .before .before .before .before .before .before .before .before .before .before .before .before .before .before .pre)) (omega (arith, c .before .before .before .before .before .before .before .before .before .before .before .before .before .before .before .before .loop .inv .words, c .before .before .before .before .before .before .before .before .before .before .before .before .before .before .before .before .before .before .before .before .before .before .before .before .pre))
-    (c .before .before .before .before .before .if1 .taken) (c .before .before .before .before .before .before .before .before .before .before .before .before .before .before .before .loop-test .taken) (start (c .before .before .before .before .before .before .before .before .before .before .before .before .before .before .before .before .before .before .before .put-text .ensures)) (c .before .before .put-ending .ensures)
+    outside _ _ _ _ (c .before .before .before .before .before .before .before .before .before .before .before .before .before .before .loop .inv) (c .before .before .before .before .before .before .before .before .run-one .ensures) (omega (arith, c .before .before .before .before .before .before .before .before .before .before .before .before .before .before .loop .inv .words, c .before .before .before .before .before .before .before .before .before .before .before .before .before .before .before .before .before .before .before .before .before .pre)) (omega (arith, c .before .before .before .before .before .before .before .before .before .before .before .before .before .before .loop .inv .words, c .before .before .before .before .before .before .before .before .before .before .before .before .before .before .before .before .before .before .before .before .before .pre))
+    (c .before .before .before .before .if1 .taken) (c .before .before .before .before .before .before .before .before .before .before .before .before .before .loop-test .taken) (c .before .before .before .before .before .before .before .before .before .before .before .before .before .before .before .before .before .put-header .ensures .whole) (c .before .before .put-ending .ensures)
 
 add-ran : tie.Need-add-ran Inv-loop μ-loop
-add-ran c = omega (arith, c .before .before .before .before .before .before .before .before .before .before .before .before .loop-test .taken)
+add-ran c = omega (arith, c .before .before .before .before .before .before .before .before .before .before .before .loop-test .taken)
 
 add-clocks : tie.Need-add-clocks Inv-loop μ-loop
-add-clocks c = omega (arith, clocks-fit _ _ _ _ (c .before .before .before .before .before .before .before .before .before .before .before .before .before .before .loop .inv) (c .before .before .before .before .before .before .before .run .ensures) (omega (arith, c .before .before .before .before .before .before .before .before .before .before .before .before .before .before .loop .inv .words, c .before .before .before .before .before .before .before .before .before .before .before .before .before .before .before .before .before .before .before .before .before .before .pre)) (omega (arith, c .before .before .before .before .before .before .before .before .before .before .before .before .before .before .loop .inv .words, c .before .before .before .before .before .before .before .before .before .before .before .before .before .before .before .before .before .before .before .before .before .before .pre)))
+add-clocks c = omega (arith, clocks-fit _ _ _ _ (c .before .before .before .before .before .before .before .before .before .before .before .before .before .loop .inv) (c .before .before .before .before .before .before .before .run-one .ensures) (omega (arith, c .before .before .before .before .before .before .before .before .before .before .before .before .before .loop .inv .words, c .before .before .before .before .before .before .before .before .before .before .before .before .before .before .before .before .before .before .before .before .pre)) (omega (arith, c .before .before .before .before .before .before .before .before .before .before .before .before .before .loop .inv .words, c .before .before .before .before .before .before .before .before .before .before .before .before .before .before .before .before .before .before .before .before .pre)))
 
 put-line-requires : tie.Need-put-line-requires Inv-loop μ-loop
-put-line-requires c κs = omega (arith, at-small _ _ _ _ (c .before .before .before .before .before .before .before .before .before .before .before .before .before .before .before .loop .inv), c .before .before .before .before .before .before .before .before .before .before .before .before .before .before .before .before .before .before .put-text .ensures .size)
+put-line-requires c κs = omega (arith, at-small _ _ _ _ (c .before .before .before .before .before .before .before .before .before .before .before .before .before .before .loop .inv), c .before .before .before .before .before .before .before .before .before .before .before .before .before .before .before .before .before .put-header .ensures .near)
 
 loop-less : tie.Need-loop-less Inv-loop μ-loop
-loop-less c = omega (arith, c .before .before .before .before .before .before .before .before .before .before .before .before .before .before .before .before .before .loop-test .taken)
+loop-less c = omega (arith, c .before .before .before .before .before .before .before .before .before .before .before .before .before .before .before .before .loop-test .taken)
 
 loop-again : tie.Need-loop-again Inv-loop μ-loop
 loop-again c =
-    turn _ _ _ _ (c .before .before .before .before .before .before .before .before .before .before .before .before .before .before .before .before .before .before .loop .inv) (c .before .before .before .before .before .before .before .before .before .before .before .run .ensures) (omega (arith, c .before .before .before .before .before .before .before .before .before .before .before .before .before .before .before .before .before .before .loop .inv .words, c .before .before .before .before .before .before .before .before .before .before .before .before .before .before .before .before .before .before .before .before .before .before .before .before .before .before .pre)) (omega (arith, c .before .before .before .before .before .before .before .before .before .before .before .before .before .before .before .before .before .before .loop .inv .words, c .before .before .before .before .before .before .before .before .before .before .before .before .before .before .before .before .before .before .before .before .before .before .before .before .before .before .pre))
-    (c .before .before .before .before .before .before .before .if1 .left) (c .before .before .before .before .before .before .before .before .before .before .before .before .before .before .before .before .before .loop-test .taken) (c .before .before .before .before .before .before .before .before .before .before .before .run .kept .0) (c .before .before .put-line .kept .0) (c .before .before .before .before .before .before .before .before .before .before .before .before .before .before .word-at .ensures) (c .before .before .put-line .ensures)
-
-slice-aggregate-put-ending-2 : tie.Need-slice-aggregate-put-ending-2 Inv-loop μ-loop
-slice-aggregate-put-ending-2 c = refl
+    turn _ _ _ _ (c .before .before .before .before .before .before .before .before .before .before .before .before .before .before .before .before .before .loop .inv) (c .before .before .before .before .before .before .before .before .before .before .before .run-one .ensures) (omega (arith, c .before .before .before .before .before .before .before .before .before .before .before .before .before .before .before .before .before .loop .inv .words, c .before .before .before .before .before .before .before .before .before .before .before .before .before .before .before .before .before .before .before .before .before .before .before .before .pre)) (omega (arith, c .before .before .before .before .before .before .before .before .before .before .before .before .before .before .before .before .before .loop .inv .words, c .before .before .before .before .before .before .before .before .before .before .before .before .before .before .before .before .before .before .before .before .before .before .before .before .pre))
+    (c .before .before .before .before .before .before .before .if1 .left) (c .before .before .before .before .before .before .before .before .before .before .before .before .before .before .before .before .loop-test .taken) (c .before .before .before .before .before .before .before .before .before .before .before .run-one .kept .0) (c .before .before .put-line .kept .0) (c .before .before .before .before .before .before .before .before .before .before .before .before .before .word-at .ensures) (c .before .before .put-line .ensures)
 
 put-ending-requires-2 : tie.Need-put-ending-requires-2 Inv-loop μ-loop
-put-ending-requires-2 c κs = omega (arith, at-small _ _ _ _ (c .before .before .before .loop .inv), c .before .before .before .before .before .before .put-text .ensures .size)
+put-ending-requires-2 c κs = omega (arith, at-small _ _ _ _ (c .before .before .loop .inv), c .before .before .before .before .before .put-header .ensures .near)
 
 same-length-3 : tie.Need-same-length-3 Inv-loop μ-loop
-same-length-3 c = c .before .before .before .before .before .before .loop .inv .words
+same-length-3 c = c .before .before .before .before .before .loop .inv .words
 
 same-length-4 : tie.Need-same-length-4 Inv-loop μ-loop
-same-length-4 c = c .before .before .put-ending2 .kept .0 ∙ c .before .before .before .before .before .before .loop .inv .room ∙ c .before .before .before .before .before .before .before .before .before .put-text .kept .0
+same-length-4 c = c .before .before .put-ending2 .kept .0 ∙ c .before .before .before .before .before .loop .inv .room ∙ c .before .before .before .before .before .before .before .before .put-header .kept .0
 
 returns-2 : tie.Need-returns-2 Inv-loop μ-loop
-unfolding header
-returns-2 c = finished _ _ _ _ (c .before .before .before .before .before .before .loop .inv) (c .before .before .before .before .before .loop-test .left) (start (c .before .before .before .before .before .before .before .before .before .put-text .ensures)) (c .before .before .put-ending2 .ensures)
+returns-2 c = finished _ _ _ _ (c .before .before .before .before .before .loop .inv) (c .before .before .before .before .loop-test .left) (c .before .before .before .before .before .before .before .before .put-header .ensures .whole) (c .before .before .put-ending2 .ensures)
 
 pub put-run-spec : {M : Type 1} → statement M
 put-run-spec =
@@ -95,14 +79,11 @@ put-run-spec =
     (tie.spec
     Inv-loop
     μ-loop
-    slice-aggregate-put-text
-    put-text-requires
+    put-header-requires
     loop-holds
     element-copy-out-address
     word-at-requires
-    slice-aggregate-run
-    run-requires
-    slice-aggregate-put-ending
+    run-one-requires
     put-ending-requires
     same-length
     same-length-2
@@ -112,7 +93,6 @@ put-run-spec =
     put-line-requires
     loop-less
     loop-again
-    slice-aggregate-put-ending-2
     put-ending-requires-2
     same-length-3
     same-length-4

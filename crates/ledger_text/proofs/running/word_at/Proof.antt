@@ -1,4 +1,4 @@
--- `ledger_text::running::word_at` meets its contract. Assumes nothing.
+-- `ledger_text::running::word_at` meets its contract.
 use mathlib.Core.Path.{sym}
 use lib.ListN.{List·getD-eq-default}
 use borrow.Author.Needs.{needs}

@@ -1,0 +1,77 @@
+// The output's parts. Each item of a line has a space before it.
+use super::input::MOST_LIST;
+use super::input::least;
+use libc::STDOUT_FILENO;
+use model::Flags;
+use model::Machine;
+use model::Refusal;
+use refusals::refusal_number;
+use text::put_decimal;
+use text::put_hexadecimal;
+
+pub fn print(text: &[u8]) {
+    io::write_all(STDOUT_FILENO, text);
+}
+
+pub fn print_number(number: u64) {
+    let mut item = [b' '; 21];
+    let digits = put_decimal(&mut item, 1, number);
+    let end = 1 + least(digits, 20);
+    print(&item[0..end]);
+}
+
+pub fn print_word(word: u32) {
+    let mut item = [b' '; 9];
+    put_hexadecimal(&mut item, 1, word);
+    print(&item);
+}
+
+// The first words, as many of them as there are.
+pub fn print_words(words: &[u32], count: usize) {
+    let end = least(count, words.len());
+    let mut i = 0;
+    while i < end {
+        print_word(words[i]);
+        i += 1;
+    }
+}
+
+fn flag_digit(flag: bool) -> u8 {
+    if flag { b'1' } else { b'0' }
+}
+
+fn print_flags(flags: Flags) {
+    let c = flag_digit(flags.carry);
+    let v = flag_digit(flags.overflow);
+    let n = flag_digit(flags.negative);
+    let z = flag_digit(flags.zero);
+    print(&[b' ', c, v, n, z]);
+}
+
+// cvnz r0..r7
+pub fn print_machine(machine: Machine) {
+    let flags = machine.flags;
+    let regs = machine.regs;
+    print_flags(flags);
+    print_words(&regs, 8);
+}
+
+// Two numbers, cvnz r0..r7
+pub fn print_counted(a: u64, b: u64, machine: Machine) {
+    print_number(a);
+    print_number(b);
+    print_machine(machine);
+}
+
+// m0.., and the line's end
+pub fn print_memory(words: [u32; MOST_LIST], count: usize) {
+    print_words(&words, count);
+    print(b"\n");
+}
+
+// The line's name, refused, N
+pub fn print_refused(name: &[u8], why: Refusal) {
+    print(name);
+    print(b" refused");
+    print_number(refusal_number(why) as u64);
+}

@@ -1,0 +1,3 @@
+mod PlaceLaws
+mod CodeLaws
+pub mod FitEnds

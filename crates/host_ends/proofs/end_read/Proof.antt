@@ -1,0 +1,56 @@
+-- `host_ends::end_read` meets its contract.
+use mathlib.Core.Path.{sym, ap, _∙_}
+use mathlib.Core.List.{[], _∷_}
+use borrow.Author.Needs.{needs}
+use Rattle.image.specs.declared.ReadAnswer.{ReadAnswer}
+use Rattle.image.specs.Calls.{readCount}
+use Rattle.host_words.specs.Words.{laid}
+use Rattle.host_ends.specs.Codes.{readCode}
+use Rattle.host_ends.proofs.CodeLaws.{ends-refused, ends-done}
+use Rattle.host_ends.proofs.end_read.Statement.{statement}
+use Rattle.host_ends.proofs.end_read.Tie as tie
+
+enum-known-answer : tie.Need-enum-known-answer
+enum-known-answer c = search needs
+
+refusal-number-requires : tie.Need-refusal-number-requires
+refusal-number-requires c κs = search needs
+
+enum-known-answer-2 : tie.Need-enum-known-answer-2
+enum-known-answer-2 c = search needs
+
+put-machine-requires : tie.Need-put-machine-requires
+put-machine-requires c κs = search needs
+
+cast-put-one : tie.Need-cast-put-one
+cast-put-one c = search needs
+
+put-one-requires : tie.Need-put-one-requires
+put-one-requires c κs = search needs
+
+returns : tie.Need-returns
+returns c = ends-refused _ _ _ _ _ _ (ap readCode (c .before .before .answer .given .1)) _ (c .refusal-number .ensures)
+
+same-length : tie.Need-same-length
+same-length c = search needs
+
+same-length-2 : tie.Need-same-length-2
+same-length-2 c = search needs
+
+returns-2 : tie.Need-returns-2
+returns-2 c = ends-done _ _ _ _ _ (ap readCode (c .before .before .before .before .before .before .before .before .before .answer2 .given .1)) _ _ (c .before .before .before .before .before .before .put-machine .ensures) (c .before .before .put-one .ensures ∙ sym (ap (λ (x : ReadAnswer). laid 1 (readCount x ∷ []) (c .before .before .before .before .before .before .before .before .before .before .before .before .before .before .args .result .now)) (c .before .before .before .before .before .before .before .before .before .answer2 .given .1)))
+
+pub end-read-spec : {M : Type 1} → statement M
+end-read-spec =
+    tie.close
+    (tie.spec
+    enum-known-answer
+    refusal-number-requires
+    enum-known-answer-2
+    put-machine-requires
+    cast-put-one
+    put-one-requires
+    returns
+    same-length
+    same-length-2
+    returns-2)

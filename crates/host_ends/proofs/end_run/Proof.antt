@@ -1,0 +1,24 @@
+-- `host_ends::end_run` meets its contract.
+use borrow.Author.Needs.{needs}
+use Rattle.host_ends.proofs.CodeLaws.{ends-by}
+use Rattle.host_ends.proofs.end_run.Statement.{statement}
+use Rattle.host_ends.proofs.end_run.Tie as tie
+
+run-code-requires : tie.Need-run-code-requires
+run-code-requires c κs = search needs
+
+end-machine-requires : tie.Need-end-machine-requires
+end-machine-requires c κs = search needs
+
+same-length : tie.Need-same-length
+same-length c = search needs
+
+same-length-2 : tie.Need-same-length-2
+same-length-2 c = search needs
+
+returns : tie.Need-returns
+returns c = ends-by _ _ _ _ _ _ (c .before .before .before .before .before .before .before .run-code .ensures) _ _ (c .before .before .before .before .end-machine .ensures)
+
+pub end-run-spec : {M : Type 1} → statement M
+end-run-spec =
+    tie.close (tie.spec run-code-requires end-machine-requires same-length same-length-2 returns)

@@ -1,0 +1,25 @@
+-- `host_ends::places::put_two` meets its contract.
+use borrow.Author.Needs.{needs}
+use Rattle.host_words.proofs.LaidLaws.{laid-over, laid-nowhere}
+use Rattle.host_ends.proofs.PlaceLaws.{two-stored}
+use Rattle.host_ends.proofs.places.put_two.Statement.{statement}
+use Rattle.host_ends.proofs.places.put_two.Tie as tie
+
+slice-write-result : tie.Need-slice-write-result
+slice-write-result c = search needs
+
+slice-write-result-2 : tie.Need-slice-write-result-2
+slice-write-result-2 c = search needs
+
+same-length : tie.Need-same-length
+same-length c = search needs
+
+returns : tie.Need-returns
+returns c = laid-over _ _ (c .before .args .result .now) (c .if1 .taken) _ (two-stored (c .before .args .result .now) _ _ (c .if1 .taken))
+
+returns-2 : tie.Need-returns-2
+returns-2 c = laid-nowhere _ _ _ (c .if1 .left)
+
+pub put-two-spec : {M : Type 1} → statement M
+put-two-spec =
+    tie.close (tie.spec slice-write-result slice-write-result-2 same-length returns returns-2)

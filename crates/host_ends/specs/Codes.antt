@@ -1,0 +1,84 @@
+-- The code that each call returns, and what it leaves of what it was lent. Document 01, "Why a call is turned down", numbers the refusals.
+use Prim.Native.Nat.{ℕ}
+use mathlib.Core.Path.{_≡_}
+use mathlib.Core.Bool.{Bool, cond, _||_}
+use mathlib.Core.List.{List, [], _∷_}
+use lib.Dec.{eqb}
+use Rattle.model.specs.declared.Refusal.{Refusal}
+use Rattle.model.specs.Refusals.{refusalNumber}
+use Rattle.interpreter.specs.declared.RunAnswer.{RunAnswer}
+use Rattle.interpreter.specs.declared.FileAnswer.{FileAnswer}
+use Rattle.gate_machine.specs.declared.GateAnswer.{GateAnswer}
+use Rattle.image.specs.declared.ReadAnswer.{ReadAnswer}
+use Rattle.image.specs.declared.WriteResult.{WriteResult}
+use Rattle.host_words.specs.Words.{laid}
+
+-- carried out; carried out and ended "outside" or "undone"; turned down; what is lent has not the layout's form
+pub data Code : Type 0 where
+  done stopped misfit : Code
+  refused : Refusal → Code
+
+-- a refusal has the paper's number, 1 to 15
+abbrev pub codeNumber : Code → ℕ
+codeNumber done = 0
+codeNumber stopped = 100
+codeNumber misfit = 200
+codeNumber (refused why) = refusalNumber why
+
+abbrev pub runCode : RunAnswer → Code
+runCode RunAnswer.Finished = done
+runCode RunAnswer.Outside = stopped
+runCode (RunAnswer.Refused why) = refused why
+
+abbrev pub fileCode : FileAnswer → Code
+fileCode FileAnswer.Finished = done
+fileCode FileAnswer.Undone = stopped
+fileCode (FileAnswer.Refused why) = refused why
+
+abbrev pub gateCode : GateAnswer → Code
+gateCode GateAnswer.Ran = done
+gateCode (GateAnswer.Refused why) = refused why
+
+abbrev pub readCode : ReadAnswer → Code
+readCode (ReadAnswer.Loaded words) = done
+readCode (ReadAnswer.Refused why) = refused why
+
+abbrev pub writeCode : WriteResult → Code
+writeCode (WriteResult.Written size) = done
+writeCode (WriteResult.Refused why) = refused why
+
+-- the bytes that a written image has; a refused call writes none
+abbrev pub writeSize : WriteResult → ℕ
+writeSize (WriteResult.Written size) = size
+writeSize (WriteResult.Refused why) = 0
+
+-- the code of a call that goes on only where what is lent has the layout's form
+abbrev pub codeIf : Bool → Code → Code
+codeIf fits code = cond fits code misfit
+
+-- a lent slice after the call: what a call that was carried out puts there, or as it was
+abbrev pub afterCall : Code → List ℕ → List ℕ → List ℕ
+afterCall done put former = put
+afterCall stopped put former = put
+afterCall misfit put former = former
+afterCall (refused why) put former = former
+
+-- a write's end: the number that it returns, the result's place
+pub record WriteEnds (r : WriteResult) (result result′ : List ℕ) (number : ℕ) : Type 0 where
+  pub returned : number ≡ codeNumber (writeCode r)
+  pub numbers : result′ ≡ afterCall (writeCode r) (laid 1 (writeSize r ∷ []) result) result
+
+-- a call's end: the number that it returns, a machine's or a state's words, the result's places
+pub record Ends (code : Code) (words places state result state′ result′ : List ℕ) (number : ℕ) : Type 0 where
+  pub returned : number ≡ codeNumber code
+  pub registers : state′ ≡ afterCall code words state
+  pub numbers : result′ ≡ afterCall code places result
+
+-- ---- the same by the code's number: whether the call was carried out
+
+abbrev pub carriedOut : ℕ → Bool
+carriedOut number = eqb number (codeNumber done) || eqb number (codeNumber stopped)
+
+pub record EndsBy (number : ℕ) (words places state result state′ result′ : List ℕ) : Type 0 where
+  pub registers : state′ ≡ cond (carriedOut number) words state
+  pub numbers : result′ ≡ cond (carriedOut number) places result

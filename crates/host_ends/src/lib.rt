@@ -1,0 +1,111 @@
+// What a call of the host library writes at its end, and the code that it returns. Nothing is written unless the call was carried out.
+mod codes;
+mod places;
+
+use codes::DONE;
+use codes::STOPPED;
+use codes::file_code;
+use codes::run_code;
+use gate_machine::GateAnswer;
+use host_words::put_machine;
+use host_words::put_state;
+use image::ReadAnswer;
+use image::ReadResult;
+use image::WriteResult;
+use interpreter::FileResult;
+use interpreter::RunResult;
+use model::GateState;
+use model::Machine;
+use places::put_one;
+use places::put_two;
+use refusals::refusal_number;
+ghost use mathlib.Core.List.{[], _∷_};
+ghost use Rattle.image.specs.Calls.{readCount};
+ghost use Rattle.host_reading.specs.Layout.{machineSize, stateSize};
+ghost use Rattle.host_words.specs.Words.{machineWords, stateWords, laid};
+ghost use Rattle.host_ends.specs.Codes.{runCode, fileCode, gateCode, readCode, Ends, WriteEnds, EndsBy};
+pub use codes::MISFIT;
+
+// A machine, and the instructions that ran with a run's other number.
+fn end_machine(code: u32, m: Machine, ran: u32, other: u64, machine: &mut [u32], result: &mut [u64])
+    ensures { λ r. ⌜ EndsBy code (laid machineSize (machineWords m) (now (machine .entry))) (laid 2 (ran ∷ other ∷ []) (now (result .entry))) (now (machine .entry)) (now (result .entry)) (now (machine .exit)) (now (result .exit)) ⌝ }
+{
+    let carried = (code == DONE) | (code == STOPPED);
+    if carried {
+        put_machine(m, &mut *machine);
+        put_two(ran as u64, other, &mut *result);
+    }
+}
+
+pub fn end_run(r: RunResult, machine: &mut [u32], result: &mut [u64]) -> u32
+    ensures { λ code. ⌜ Ends (runCode (r .answer)) (laid machineSize (machineWords (r .machine)) (now (machine .entry))) (laid 2 (r .ran ∷ r .clocks ∷ []) (now (result .entry))) (now (machine .entry)) (now (result .entry)) (now (machine .exit)) (now (result .exit)) code ⌝ }
+{
+    let answer = r.answer;
+    let after = r.machine;
+    let code = run_code(answer);
+    end_machine(code, after, r.ran, r.clocks, &mut *machine, &mut *result);
+    code
+}
+
+pub fn end_file_run(r: FileResult, machine: &mut [u32], result: &mut [u64]) -> u32
+    ensures { λ code. ⌜ Ends (fileCode (r .answer)) (laid machineSize (machineWords (r .machine)) (now (machine .entry))) (laid 2 (r .ran ∷ r .pairs ∷ []) (now (result .entry))) (now (machine .entry)) (now (result .entry)) (now (machine .exit)) (now (result .exit)) code ⌝ }
+{
+    let answer = r.answer;
+    let after = r.machine;
+    let code = file_code(answer);
+    end_machine(
+        code,
+        after,
+        r.ran,
+        r.pairs as u64,
+        &mut *machine,
+        &mut *result,
+    );
+    code
+}
+
+pub fn end_gate_run(
+    answer: GateAnswer,
+    s: GateState,
+    finished: u64,
+    state: &mut [u32],
+    result: &mut [u64],
+) -> u32
+    ensures { λ code. ⌜ Ends (gateCode answer) (laid stateSize (stateWords s) (now (state .entry))) (laid 1 (finished ∷ []) (now (result .entry))) (now (state .entry)) (now (result .entry)) (now (state .exit)) (now (result .exit)) code ⌝ }
+{
+    match answer {
+        GateAnswer::Refused(why) => refusal_number(why),
+        GateAnswer::Ran => {
+            put_state(s, &mut *state);
+            put_one(finished, &mut *result);
+            DONE
+        }
+    }
+}
+
+pub fn end_read(r: ReadResult, machine: &mut [u32], result: &mut [u64]) -> u32
+    ensures { λ code. ⌜ Ends (readCode (r .answer)) (laid machineSize (machineWords (r .machine)) (now (machine .entry))) (laid 1 (readCount (r .answer) ∷ []) (now (result .entry))) (now (machine .entry)) (now (result .entry)) (now (machine .exit)) (now (result .exit)) code ⌝ }
+{
+    let answer = r.answer;
+    let after = r.machine;
+    match answer {
+        ReadAnswer::Refused(why) => refusal_number(why),
+        ReadAnswer::Loaded(words) => {
+            put_machine(after, &mut *machine);
+            put_one(words as u64, &mut *result);
+            DONE
+        }
+    }
+}
+
+pub fn end_write(r: WriteResult, result: &mut [u64]) -> u32
+    ensures { λ code. ⌜ WriteEnds r (now (result .entry)) (now (result .exit)) code ⌝ }
+{
+    match r {
+        WriteResult::Refused(why) => refusal_number(why),
+        WriteResult::Written(size) => {
+            put_one(size as u64, &mut *result);
+            DONE
+        }
+    }
+}

@@ -1,0 +1,62 @@
+-- `host_reading::reading::state_in` meets its contract.
+use borrow.Author.Needs.{needs}
+use Rattle.host_reading.proofs.ReadingLaws.{state-from}
+use Rattle.host_reading.proofs.reading.state_in.Statement.{statement}
+use Rattle.host_reading.proofs.reading.state_in.Tie as tie
+
+machine-in-requires : tie.Need-machine-in-requires
+machine-in-requires c κs = search needs
+
+shared-slice-read-row-in : tie.Need-shared-slice-read-row-in
+shared-slice-read-row-in c = search needs
+
+row-in-requires : tie.Need-row-in-requires
+row-in-requires c κs = search needs
+
+shared-slice-read-t9 : tie.Need-shared-slice-read-t9
+shared-slice-read-t9 c = search needs
+
+shared-slice-read-t11 : tie.Need-shared-slice-read-t11
+shared-slice-read-t11 c = search needs
+
+shared-slice-read-t13 : tie.Need-shared-slice-read-t13
+shared-slice-read-t13 c = search needs
+
+shared-slice-read-t15 : tie.Need-shared-slice-read-t15
+shared-slice-read-t15 c = search needs
+
+shared-slice-read-t17 : tie.Need-shared-slice-read-t17
+shared-slice-read-t17 c = search needs
+
+shared-slice-read-t19 : tie.Need-shared-slice-read-t19
+shared-slice-read-t19 c = search needs
+
+shared-slice-read-t21 : tie.Need-shared-slice-read-t21
+shared-slice-read-t21 c = search needs
+
+shared-slice-read-t24 : tie.Need-shared-slice-read-t24
+shared-slice-read-t24 c = search needs
+
+cast-t25 : tie.Need-cast-t25
+cast-t25 c = search needs
+
+returns : tie.Need-returns
+returns c = state-from _ _ (c .before .before .before .before .before .before .before .before .before .before .before .before .machine-in .ensures) _ (c .before .before .before .before .before .before .before .before .row-in .ensures)
+
+pub state-in-spec : {M : Type 1} → statement M
+state-in-spec =
+    tie.close
+    (tie.spec
+    machine-in-requires
+    shared-slice-read-row-in
+    row-in-requires
+    shared-slice-read-t9
+    shared-slice-read-t11
+    shared-slice-read-t13
+    shared-slice-read-t15
+    shared-slice-read-t17
+    shared-slice-read-t19
+    shared-slice-read-t21
+    shared-slice-read-t24
+    cast-t25
+    returns)

@@ -1,0 +1,102 @@
+-- Where a machine and a gate state stand in the words that a host lends. Document 01, "Machine and instruction word" and "Clocks".
+use Prim.Native.Nat.{ℕ, min}
+use mathlib.Core.Bool.{Bool, cond, not, _&&_}
+use mathlib.Core.List.{List, [], _∷_}
+use lib.Dec.{eqb, leb}
+use lib.ListN.{length}
+use Rattle.model.specs.declared.Flags.{Flags}
+use Rattle.model.specs.declared.Machine.{Machine}
+use Rattle.model.specs.declared.GateState.{GateState}
+use Rattle.model.specs.Words.{wordAt}
+use Rattle.host_reading.specs.declared.MachineLent.{MachineLent}
+use Rattle.host_reading.specs.declared.StateLent.{StateLent}
+
+-- where a call reads a flag word, any word other than 0 counts as 1
+abbrev pub truth : ℕ → Bool
+truth word = not (eqb word 0)
+
+-- ---- 12 words: r0 to r7, C, V, N, Z
+
+abbrev pub machineSize : ℕ
+machineSize = 12
+
+abbrev pub registersIn : List ℕ → List ℕ
+registersIn words =
+    wordAt words 0
+    ∷ wordAt words 1
+    ∷ wordAt words 2
+    ∷ wordAt words 3
+    ∷ wordAt words 4
+    ∷ wordAt words 5
+    ∷ wordAt words 6
+    ∷ wordAt words 7
+    ∷ []
+
+abbrev pub flagsIn : List ℕ → Flags
+flagsIn words =
+    record {
+      carry = truth (wordAt words 8);
+      overflow = truth (wordAt words 9);
+      negative = truth (wordAt words 10);
+      zero = truth (wordAt words 11);
+    }
+
+unfoldable pub machineIn : List ℕ → Machine
+machineIn words = record { regs = registersIn words; flags = flagsIn words }
+
+-- whether so many words are a machine's, and so many result places those due
+unfoldable pub machineFits : (words places due : ℕ) → Bool
+machineFits words places due = eqb words machineSize && eqb places due
+
+-- ---- 21 words: the machine's 12, row, the latches, position, whether an access has begun, its clocks left
+
+abbrev pub stateSize : ℕ
+stateSize = 21
+
+-- a word above 255 is no row either: it is read as row 255, so that 4 is given in its turn
+abbrev pub rowIn : ℕ → ℕ
+rowIn word = min word 255
+
+-- clocks left are 16 bits
+abbrev pub mostClocksLeft : ℕ
+mostClocksLeft = 65_535
+
+-- a gate state of so much: its machine, its row, and the words after them
+module _ (words : List ℕ) (machine : Machine) (row : ℕ) where
+  abbrev pub stateWith : GateState
+  stateWith =
+      record {
+        regs = machine .regs;
+        flags = machine .flags;
+        row = row;
+        instruction = wordAt words 13;
+        address = wordAt words 14;
+        a = wordAt words 15;
+        b = wordAt words 16;
+        result = wordAt words 17;
+        position = wordAt words 18;
+        begun = truth (wordAt words 19);
+        left = wordAt words 20;
+      }
+
+unfoldable pub stateIn : List ℕ → GateState
+stateIn words = stateWith words (machineIn words) (rowIn (wordAt words 12))
+
+-- whether what is lent for a gate state has its form, with one result place
+unfoldable pub stateFits : List ℕ → (places : ℕ) → Bool
+stateFits state places = eqb (length state) stateSize && eqb places 1 && leb (wordAt state 20) mostClocksLeft
+
+-- ---- what a call starts from: the words, or none where what is lent does not fit; a word that is not there counts as 0
+
+abbrev pub fitting : Bool → List ℕ → List ℕ
+fitting fits words = cond fits words []
+
+unfoldable pub machineLent : List ℕ → (places due : ℕ) → MachineLent
+machineLent words places due =
+    let fits = machineFits (length words) places due in
+    record { fits = fits; machine = machineIn (fitting fits words) }
+
+unfoldable pub stateLent : List ℕ → (places : ℕ) → StateLent
+stateLent words places =
+    let fits = stateFits words places in
+    record { fits = fits; state = stateIn (fitting fits words) }

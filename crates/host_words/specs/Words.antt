@@ -1,0 +1,41 @@
+-- The words that a call leaves of a machine and of a gate state. Document 01, "Machine and instruction word" and "Clocks".
+use Prim.Native.Nat.{ℕ}
+use mathlib.Core.Bool.{cond}
+use mathlib.Core.List.{List, [], _∷_, _++_}
+use lib.Dec.{eqb}
+use lib.ListN.{length}
+use Rattle.model.specs.declared.Flags.{Flags}
+use Rattle.model.specs.declared.Machine.{Machine}
+use Rattle.model.specs.declared.GateState.{GateState}
+use Rattle.arithmetic.specs.Words.{asNumber}
+use Rattle.model.specs.Agreement.{machineOf}
+use Rattle.host_reading.specs.Layout.{registersIn}
+
+-- a flag word is written as 0 or 1
+abbrev pub flagWords : Flags → List ℕ
+flagWords flags =
+    asNumber (flags .carry) ∷ asNumber (flags .overflow) ∷ asNumber (flags .negative) ∷ asNumber (flags .zero) ∷ []
+
+unfoldable pub machineWords : Machine → List ℕ
+machineWords m = registersIn (m .regs) ++ flagWords (m .flags)
+
+-- the nine words after the machine's
+unfoldable pub latchWords : GateState → List ℕ
+latchWords s =
+    s .row
+    ∷ s .instruction
+    ∷ s .address
+    ∷ s .a
+    ∷ s .b
+    ∷ s .result
+    ∷ s .position
+    ∷ asNumber (s .begun)
+    ∷ s .left
+    ∷ []
+
+abbrev pub stateWords : GateState → List ℕ
+stateWords s = machineWords (machineOf s) ++ latchWords s
+
+-- so many numbers, laid over a lent slice of their length; any other slice is left as it was
+abbrev pub laid : (size : ℕ) → (numbers lent : List ℕ) → List ℕ
+laid size numbers lent = cond (eqb (length lent) size) numbers lent

@@ -1,0 +1,50 @@
+// The words of a machine and of a gate state.
+use model::GateState;
+use model::Machine;
+ghost use mathlib.Core.Path.{_≡_};
+ghost use Rattle.arithmetic.specs.Words.{asNumber};
+ghost use Rattle.host_words.specs.Words.{machineWords, latchWords};
+
+fn flag_word(flag: bool) -> u32
+    ensures { λ r. ⌜ r ≡ asNumber flag ⌝ }
+{
+    if flag { 1 } else { 0 }
+}
+
+pub fn machine_words(m: Machine) -> [u32; 12]
+    ensures { λ r. ⌜ r ≡ machineWords m ⌝ }
+{
+    let r = m.regs;
+    let f = m.flags;
+    [
+        r[0],
+        r[1],
+        r[2],
+        r[3],
+        r[4],
+        r[5],
+        r[6],
+        r[7],
+        flag_word(f.carry),
+        flag_word(f.overflow),
+        flag_word(f.negative),
+        flag_word(f.zero),
+    ]
+}
+
+// The words of a gate state after its machine's.
+pub fn latch_words(s: GateState) -> [u32; 9]
+    ensures { λ r. ⌜ r ≡ latchWords s ⌝ }
+{
+    [
+        s.row as u32,
+        s.instruction,
+        s.address,
+        s.a,
+        s.b,
+        s.result,
+        s.position,
+        flag_word(s.begun),
+        s.left as u32,
+    ]
+}

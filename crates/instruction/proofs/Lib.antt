@@ -1,3 +1,0 @@
-pub mod Operands
-pub mod Effects
-pub mod Packing

@@ -1,0 +1,23 @@
+-- `ledger_text::lines::put_header` meets its contract.
+use native.Mathlib.Omega.{arith}
+use borrow.Author.Needs.{needs}
+use Rattle.ledger_text.specs.Lines.{header}
+use Rattle.ledger_text.proofs.PartLaws.{short, start}
+use Rattle.ledger_text.proofs.lines.put_header.Statement.{statement}
+use Rattle.ledger_text.proofs.lines.put_header.Tie as tie
+
+slice-aggregate-put-text : tie.Need-slice-aggregate-put-text
+slice-aggregate-put-text c = search needs
+
+put-text-requires : tie.Need-put-text-requires
+put-text-requires c κs = tt
+
+same-length : tie.Need-same-length
+same-length c = search needs
+
+returns : tie.Need-returns
+unfolding header
+returns c = short 25 (omega arith) (start (c .before .before .put-text .ensures))
+
+pub put-header-spec : {M : Type 1} → statement M
+put-header-spec = tie.close (tie.spec slice-aggregate-put-text put-text-requires same-length returns)

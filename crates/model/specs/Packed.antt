@@ -1,0 +1,12 @@
+-- The four flags as the bits of one number, in the order in which an instruction word permits them: Z, N, V, C from bit 0. Document 01, "Machine and instruction word".
+use Prim.Native.Nat.{ℕ, _+_, _*_}
+use Rattle.arithmetic.specs.Words.{asNumber}
+use Rattle.model.specs.declared.Flags.{Flags}
+use Rattle.model.specs.Words.{bit}
+
+unfoldable pub packedOf : Flags → ℕ
+packedOf f = 8 * asNumber (f .carry) + 4 * asNumber (f .overflow) + 2 * asNumber (f .negative) + asNumber (f .zero)
+
+-- the flags that a number's low four bits stand for
+unfoldable pub flagsOf : ℕ → Flags
+flagsOf n = record { carry = bit n 3; overflow = bit n 2; negative = bit n 1; zero = bit n 0 }
