@@ -9,16 +9,8 @@ use arithmetic::AluOut;
 use model::Flags;
 ghost use mathlib.Core.Path.{_≡_};
 ghost use mathlib.Core.Bool.{cond};
-ghost use Prim.Native.Nat.{_<_};
 ghost use Rattle.model.specs.Alu.{isMove, operation, flagsAfter, condition, stores};
 ghost use Rattle.model.specs.Packed.{packedOf, flagsOf};
-
-fn narrow(x: u32) -> u8
-    requires { ⌜ x < 16 ⌝ }
-    ensures { λ r. ⌜ r ≡ x ⌝ }
-{
-    x as u8
-}
 
 pub fn is_move(word: u32) -> bool
     ensures { λ r. ⌜ r ≡ isMove word ⌝ }
@@ -30,7 +22,7 @@ pub fn is_move(word: u32) -> bool
 pub fn operation_of(word: u32) -> u8
     ensures { λ r. ⌜ r ≡ operation word ⌝ }
 {
-    narrow(word / 65536 % 16)
+    (word / 65536 % 16) as u8
 }
 
 // The operation that the arithmetic unit is told; a move is operation 0.

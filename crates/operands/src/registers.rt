@@ -7,17 +7,11 @@ ghost use lib.ListN.{set};
 ghost use Rattle.model.specs.Words.{inc, dec};
 ghost use Rattle.model.specs.Operands.{registerOf, stepped, stepDown, stepUp, registerWord};
 
-fn wide8(x: u8) -> usize
-    ensures { λ r. ⌜ r ≡ x ⌝ }
-{
-    x as usize
-}
-
 // The word of an operand's register.
 pub fn register_word(o: Operand, regs: &[u32; 8]) -> u32
     ensures { λ r. ⌜ r ≡ registerWord o (now (regs .entry)) ⌝ }
 {
-    let i = wide8(register_of(o));
+    let i = register_of(o) as usize;
     regs[i]
 }
 
@@ -25,7 +19,7 @@ pub fn register_word(o: Operand, regs: &[u32; 8]) -> u32
 pub fn set_register(o: Operand, x: u32, regs: &mut [u32; 8])
     ensures { λ r. ⌜ now (regs .exit) ≡ set (now (regs .entry)) (registerOf o) x ⌝ }
 {
-    let i = wide8(register_of(o));
+    let i = register_of(o) as usize;
     regs[i] = x;
 }
 
@@ -59,7 +53,7 @@ pub fn step_down(o: Operand, regs: &mut [u32; 8])
     match o {
         Operand::Direct(_) => {}
         Operand::Indirect(_) => {}
-        Operand::Before(r) => decrement(wide8(r % 8), &mut *regs),
+        Operand::Before(r) => decrement((r % 8) as usize, &mut *regs),
         Operand::After(_) => {}
     }
 }
@@ -72,6 +66,6 @@ pub fn step_up(o: Operand, regs: &mut [u32; 8])
         Operand::Direct(_) => {}
         Operand::Indirect(_) => {}
         Operand::Before(_) => {}
-        Operand::After(r) => increment(wide8(r % 8), &mut *regs),
+        Operand::After(r) => increment((r % 8) as usize, &mut *regs),
     }
 }

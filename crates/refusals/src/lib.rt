@@ -8,12 +8,6 @@ use model::Verdict;
 ghost use mathlib.Core.Path.{_≡_};
 ghost use Rattle.model.specs.Refusals.{refusalNumber, demand, _then_, memoryFits, waitsFit, stateFits, journalFits, runVerdict, fileVerdict, gateVerdict};
 
-fn wide(x: u32) -> usize
-    ensures { λ r. ⌜ r ≡ x ⌝ }
-{
-    x as usize
-}
-
 // Document 01's number of a refusal, 1 to 15.
 pub fn refusal_number(why: Refusal) -> u32
     ensures { λ r. ⌜ r ≡ refusalNumber why ⌝ }
@@ -90,7 +84,7 @@ fn state_fits(s: GateState) -> Verdict
 fn journal_fits(journal: &[u32], count: u32) -> Verdict
     ensures { λ r. ⌜ r ≡ journalFits (now (journal .entry)) count ⌝ }
 {
-    let places = 2 * wide(count);
+    let places = 2 * (count as usize);
     then(
         demand(count <= 65_536, Refusal::TooManyInstructions),
         demand(places <= journal.len(), Refusal::ShortJournal),

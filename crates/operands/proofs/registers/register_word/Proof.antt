@@ -7,19 +7,19 @@ use Rattle.operands.proofs.registers.register_word.Tie as tie
 register-of-requires : tie.Need-register-of-requires
 register-of-requires c κs = search needs
 
-wide8-requires : tie.Need-wide8-requires
-wide8-requires c κs = search needs
+cast-i : tie.Need-cast-i
+cast-i c = search needs
 
 mul-result : tie.Need-mul-result
 mul-result c = search needs
 
 element-copy-out-result : tie.Need-element-copy-out-result
-element-copy-out-result c = omega (arith, c .wide8 .ensures, c .before .register-of .ensures, register-small (c .before .before .args .o))
+element-copy-out-result c = omega (arith, c .register-of .ensures, register-small (c .before .args .o))
 
 returns : tie.Need-returns
-returns c = rw (c .before .wide8 .ensures, c .before .before .register-of .ensures)
+returns c = rw (c .before .register-of .ensures)
 
 pub register-word-spec : {M : Type 1} → statement M
 register-word-spec =
     tie.close
-    (tie.spec register-of-requires wide8-requires mul-result element-copy-out-result returns)
+    (tie.spec register-of-requires cast-i mul-result element-copy-out-result returns)

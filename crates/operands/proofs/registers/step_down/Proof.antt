@@ -13,11 +13,11 @@ enum-told-2 c = search needs
 enum-known-o : tie.Need-enum-known-o
 enum-known-o c = search needs
 
-wide8-requires : tie.Need-wide8-requires
-wide8-requires c κs = search needs
+cast-decrement : tie.Need-cast-decrement
+cast-decrement c = search needs
 
 decrement-requires : tie.Need-decrement-requires
-decrement-requires c κs = omega (arith, c .before .wide8 .ensures)
+decrement-requires c κs = omega arith
 
 enum-told-3 : tie.Need-enum-told-3
 enum-told-3 c = search needs
@@ -29,7 +29,7 @@ returns-2 : tie.Need-returns-2
 returns-2 c = search needs
 
 returns-3 : tie.Need-returns-3
-returns-3 c = c .decrement .ensures ∙ rw (c .before .before .wide8 .ensures, c .before .before .before .before .o .given .1)
+returns-3 c = c .decrement .ensures ∙ rw (c .before .before .before .o .given .1)
 
 returns-4 : tie.Need-returns-4
 returns-4 c = search needs
@@ -41,7 +41,7 @@ step-down-spec =
     enum-told
     enum-told-2
     enum-known-o
-    wide8-requires
+    cast-decrement
     decrement-requires
     enum-told-3
     returns

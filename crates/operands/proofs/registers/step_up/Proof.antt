@@ -16,11 +16,11 @@ enum-told-3 c = search needs
 enum-known-o : tie.Need-enum-known-o
 enum-known-o c = search needs
 
-wide8-requires : tie.Need-wide8-requires
-wide8-requires c κs = search needs
+cast-increment : tie.Need-cast-increment
+cast-increment c = search needs
 
 increment-requires : tie.Need-increment-requires
-increment-requires c κs = omega (arith, c .before .wide8 .ensures)
+increment-requires c κs = omega arith
 
 returns : tie.Need-returns
 returns c = search needs
@@ -32,7 +32,7 @@ returns-3 : tie.Need-returns-3
 returns-3 c = search needs
 
 returns-4 : tie.Need-returns-4
-returns-4 c = c .increment .ensures ∙ rw (c .before .before .wide8 .ensures, c .before .before .before .before .o .given .1)
+returns-4 c = c .increment .ensures ∙ rw (c .before .before .before .o .given .1)
 
 pub step-up-spec : {M : Type 1} → statement M
 step-up-spec =
@@ -42,7 +42,7 @@ step-up-spec =
     enum-told-2
     enum-told-3
     enum-known-o
-    wide8-requires
+    cast-increment
     increment-requires
     returns
     returns-2
