@@ -3,10 +3,10 @@ use super::take::take;
 use model::Operand;
 use operands::operand_a;
 use operands::operand_b;
-use operands::register_word;
-use operands::set_register;
-use operands::step_pc;
 use operands::wide;
+use registers::register_word;
+use registers::set_register;
+use registers::step_pc;
 ghost use mathlib.Core.Path.{_≡_};
 ghost use Rattle.step.specs.Steps.{nothing, Fetches};
 

@@ -5,7 +5,7 @@ use super::fetch::Fetched;
 use super::put::put;
 use effects::set_flags;
 use effects::stores_on;
-use operands::step_up;
+use registers::step_up;
 ghost use Rattle.step.specs.Steps.{Finishes};
 
 // The storing condition is read from the old flags, and the new ones are made before the store, so that little is carried past it.

@@ -1,9 +1,9 @@
 // The store into operand B, with its pair in the journal.
 use super::fetch::Fetched;
 use operands::in_memory;
-use operands::set_register;
 use operands::store;
 use operands::wide;
+use registers::set_register;
 ghost use Rattle.step.specs.Steps.{Notes, Puts};
 
 // One pair more. Returns the number of pairs.

@@ -2,10 +2,10 @@
 use model::Operand;
 use operands::in_memory;
 use operands::load;
-use operands::register_word;
-use operands::set_register;
-use operands::step_down;
 use operands::wide;
+use registers::register_word;
+use registers::set_register;
+use registers::step_down;
 ghost use mathlib.Core.Path.{_≡_};
 ghost use Rattle.step.specs.Steps.{takenOf, Takes};
 

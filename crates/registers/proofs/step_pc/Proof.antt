@@ -1,6 +1,6 @@
 use native.Mathlib.Omega.{arith}
-use Rattle.operands.proofs.registers.step_pc.Statement.{statement}
-use Rattle.operands.proofs.registers.step_pc.Tie as tie
+use Rattle.registers.proofs.step_pc.Statement.{statement}
+use Rattle.registers.proofs.step_pc.Tie as tie
 
 increment-requires : tie.Need-increment-requires
 increment-requires c κs = omega arith

@@ -1,14 +1,14 @@
 use native.Mathlib.Omega.{arith}
 use borrow.Author.Needs.{needs}
 use Rattle.operands.proofs.Operands.{register-small}
-use Rattle.operands.proofs.registers.register_word.Statement.{statement}
-use Rattle.operands.proofs.registers.register_word.Tie as tie
+use Rattle.registers.proofs.register_word.Statement.{statement}
+use Rattle.registers.proofs.register_word.Tie as tie
 
 register-of-requires : tie.Need-register-of-requires
 register-of-requires c κs = search needs
 
-cast-i : tie.Need-cast-i
-cast-i c = search needs
+cast-at : tie.Need-cast-at
+cast-at c = search needs
 
 mul-result : tie.Need-mul-result
 mul-result c = search needs
@@ -22,4 +22,4 @@ returns c = rw (c .before .register-of .ensures)
 pub register-word-spec : {M : Type 1} → statement M
 register-word-spec =
     tie.close
-    (tie.spec register-of-requires cast-i mul-result element-copy-out-result returns)
+    (tie.spec register-of-requires cast-at mul-result element-copy-out-result returns)

@@ -1,6 +1,6 @@
-// An operand's register: its word, a store into it, its steps before and after the access; the program counter's step.
-use super::operand::register_of;
+// An operand's register: its word, a store into it, its steps before and after the access; the program counter's step. Leaves that both engines use.
 use model::Operand;
+use operands::register_of;
 ghost use mathlib.Core.Path.{_≡_};
 ghost use Prim.Native.Nat.{_<_};
 ghost use lib.ListN.{set};
@@ -11,8 +11,8 @@ ghost use Rattle.model.specs.Operands.{registerOf, stepped, stepDown, stepUp, r
 pub fn register_word(o: Operand, regs: &[u32; 8]) -> u32
     ensures { λ r. ⌜ r ≡ registerWord o (now (regs .entry)) ⌝ }
 {
-    let i = register_of(o) as usize;
-    regs[i]
+    let at = register_of(o) as usize;
+    regs[at]
 }
 
 // Puts a word into an operand's register.

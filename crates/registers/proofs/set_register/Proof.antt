@@ -1,8 +1,8 @@
 use native.Mathlib.Omega.{arith}
 use borrow.Author.Needs.{needs}
 use Rattle.operands.proofs.Operands.{register-small}
-use Rattle.operands.proofs.registers.set_register.Statement.{statement}
-use Rattle.operands.proofs.registers.set_register.Tie as tie
+use Rattle.registers.proofs.set_register.Statement.{statement}
+use Rattle.registers.proofs.set_register.Tie as tie
 
 register-of-requires : tie.Need-register-of-requires
 register-of-requires c κs = search needs

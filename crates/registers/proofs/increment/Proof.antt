@@ -1,8 +1,8 @@
 use mathlib.Core.Path.{ap}
 use lib.ListN.{set}
 use borrow.Author.Needs.{needs}
-use Rattle.operands.proofs.registers.increment.Statement.{statement}
-use Rattle.operands.proofs.registers.increment.Tie as tie
+use Rattle.registers.proofs.increment.Statement.{statement}
+use Rattle.registers.proofs.increment.Tie as tie
 
 mul-x : tie.Need-mul-x
 mul-x c = search needs

@@ -2,8 +2,8 @@ use mathlib.Core.Path.{ap}
 use native.Mathlib.Omega.{arith}
 use lib.ListN.{set}
 use borrow.Author.Needs.{needs}
-use Rattle.operands.proofs.registers.decrement.Statement.{statement}
-use Rattle.operands.proofs.registers.decrement.Tie as tie
+use Rattle.registers.proofs.decrement.Statement.{statement}
+use Rattle.registers.proofs.decrement.Tie as tie
 
 mul-x : tie.Need-mul-x
 mul-x c = search needs
