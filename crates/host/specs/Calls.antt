@@ -17,7 +17,7 @@ use Rattle.image.specs.declared.WriteResult.{WriteResult}
 use Rattle.image.specs.Format.{imageOf}
 use Rattle.image.specs.Reading.{readOf}
 use Rattle.image.specs.Calls.{readResult, readWords, readCount, writeVerdict, writeResult, writeBytes}
-use Rattle.host_reading.specs.Layout.{machineIn, machineFits, stateIn, stateFits}
+use Rattle.host_reading.specs.Layout.{machineIn, machineFormed, stateIn, stateFormed}
 use Rattle.host_words.specs.Words.{machineWords, stateWords}
 use Rattle.host_ends.specs.Codes.{Code, codeNumber, codeIf, runCode, fileCode, gateCode, readCode, writeCode, writeSize, afterCall}
 
@@ -39,11 +39,11 @@ module _ (memory waits machine : List ℕ) (count : ℕ) where
   runNumbers = ran .ran ∷ ran .clocks ∷ []
 
   abbrev pub runEnds : List ℕ → Code
-  runEnds result = codeIf (machineFits (length machine) (length result) 2) (runCode (ran .answer))
+  runEnds result = codeIf (machineFormed (length machine) (length result) 2) (runCode (ran .answer))
 
 pub record RunCall (memory waits machine : List ℕ) (count : ℕ) (result memory′ machine′ result′ : List ℕ) (code : ℕ) : Type 0 where
   pub returned : code ≡ codeNumber (runEnds memory waits machine count result)
-  pub words : memory′ ≡ cond (machineFits (length machine) (length result) 2) (runWords memory waits machine count) memory
+  pub words : memory′ ≡ cond (machineFormed (length machine) (length result) 2) (runWords memory waits machine count) memory
   pub registers : machine′ ≡ afterCall (runEnds memory waits machine count result) (machineWords (ran memory waits machine count .machine)) machine
   pub numbers : result′ ≡ afterCall (runEnds memory waits machine count result) (runNumbers memory waits machine count) result
 
@@ -71,12 +71,12 @@ module _ (memory journal machine : List ℕ) (count : ℕ) where
   fileNumbers = filed .ran ∷ filed .pairs ∷ []
 
   abbrev pub fileEnds : List ℕ → Code
-  fileEnds result = codeIf (machineFits (length machine) (length result) 2) (fileCode (filed .answer))
+  fileEnds result = codeIf (machineFormed (length machine) (length result) 2) (fileCode (filed .answer))
 
 pub record FileCall (memory journal machine : List ℕ) (count : ℕ) (result memory′ journal′ machine′ result′ : List ℕ) (code : ℕ) : Type 0 where
   pub returned : code ≡ codeNumber (fileEnds memory journal machine count result)
-  pub words : memory′ ≡ cond (machineFits (length machine) (length result) 2) (fileWords memory journal machine count) memory
-  pub places : journal′ ≡ cond (machineFits (length machine) (length result) 2) (filePlaces memory journal machine count) journal
+  pub words : memory′ ≡ cond (machineFormed (length machine) (length result) 2) (fileWords memory journal machine count) memory
+  pub places : journal′ ≡ cond (machineFormed (length machine) (length result) 2) (filePlaces memory journal machine count) journal
   pub registers : machine′ ≡ afterCall (fileEnds memory journal machine count result) (machineWords (filed memory journal machine count .machine)) machine
   pub numbers : result′ ≡ afterCall (fileEnds memory journal machine count result) (fileNumbers memory journal machine count) result
 
@@ -88,12 +88,12 @@ module _ (memory waits state : List ℕ) (clocks : ℕ) where
   clocked = gateOutcome memory waits (stateIn state) clocks
 
   abbrev pub gateEnds : List ℕ → Code
-  gateEnds result = codeIf (stateFits state (length result)) (gateCode (clocked .result .answer))
+  gateEnds result = codeIf (stateFormed state (length result)) (gateCode (clocked .result .answer))
 
 -- the result's place: the instructions finished
 pub record GateCall (memory waits state : List ℕ) (clocks : ℕ) (result memory′ state′ result′ : List ℕ) (code : ℕ) : Type 0 where
   pub returned : code ≡ codeNumber (gateEnds memory waits state clocks result)
-  pub words : memory′ ≡ cond (stateFits state (length result)) (clocked memory waits state clocks .memory) memory
+  pub words : memory′ ≡ cond (stateFormed state (length result)) (clocked memory waits state clocks .memory) memory
   pub registers : state′ ≡ afterCall (gateEnds memory waits state clocks result) (stateWords (clocked memory waits state clocks .result .state)) state
   pub numbers : result′ ≡ afterCall (gateEnds memory waits state clocks result) (clocked memory waits state clocks .result .finished ∷ []) result
 
@@ -108,12 +108,12 @@ module _ (bytes memory : List ℕ) where
   wordsRead = readWords (readOf bytes (length memory)) memory
 
   abbrev pub readEnds : (machine result : List ℕ) → Code
-  readEnds machine result = codeIf (machineFits (length machine) (length result) 1) (readCode (readBack .answer))
+  readEnds machine result = codeIf (machineFormed (length machine) (length result) 1) (readCode (readBack .answer))
 
 -- the result's place: the image's words
 pub record ReadCall (bytes memory machine result memory′ machine′ result′ : List ℕ) (code : ℕ) : Type 0 where
   pub returned : code ≡ codeNumber (readEnds bytes memory machine result)
-  pub words : memory′ ≡ cond (machineFits (length machine) (length result) 1) (wordsRead bytes memory) memory
+  pub words : memory′ ≡ cond (machineFormed (length machine) (length result) 1) (wordsRead bytes memory) memory
   pub registers : machine′ ≡ afterCall (readEnds bytes memory machine result) (machineWords (readBack bytes memory .machine)) machine
   pub numbers : result′ ≡ afterCall (readEnds bytes memory machine result) (readCount (readBack bytes memory .answer) ∷ []) result
 
@@ -131,10 +131,10 @@ module _ (memory machine out : List ℕ) where
   bytesWritten = writeBytes (writeVerdict memory imageFrom out) imageFrom out
 
   abbrev pub writeEnds : (result : List ℕ) → Code
-  writeEnds result = codeIf (machineFits (length machine) (length result) 1) (writeCode written)
+  writeEnds result = codeIf (machineFormed (length machine) (length result) 1) (writeCode written)
 
 -- the result's place: the image's bytes
 pub record WriteCall (memory machine out result out′ result′ : List ℕ) (code : ℕ) : Type 0 where
   pub returned : code ≡ codeNumber (writeEnds memory machine out result)
-  pub bytes : out′ ≡ cond (machineFits (length machine) (length result) 1) (bytesWritten memory machine out) out
+  pub bytes : out′ ≡ cond (machineFormed (length machine) (length result) 1) (bytesWritten memory machine out) out
   pub numbers : result′ ≡ afterCall (writeEnds memory machine out result) (writeSize (written memory machine out) ∷ []) result

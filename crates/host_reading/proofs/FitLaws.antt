@@ -8,7 +8,7 @@ use lib.Dec.{eqb, leb}
 use lib.ListN.{length}
 use borrow.Author.Tests.{eqb-true, leb-true}
 use Rattle.model.specs.Words.{wordAt}
-use Rattle.host_reading.specs.Layout.{machineSize, stateSize, mostClocksLeft, machineFits, stateFits}
+use Rattle.host_reading.specs.Layout.{machineSize, stateSize, mostClocksLeft, machineFormed, stateFormed}
 
 pub both : (p q : Bool) → p && q ≡ true → (p ≡ true) × (q ≡ true)
 both true true e = (refl, refl)
@@ -16,17 +16,17 @@ both true false e = (refl, e)
 both false true e = (e, refl)
 both false false e = (e, e)
 
-module _ (words places due : ℕ) (f : machineFits words places due ≡ true) where
+module _ (words places due : ℕ) (f : machineFormed words places due ≡ true) where
   pub machine-tests : (eqb words machineSize ≡ true) × (eqb places due ≡ true)
-  unfolding machineFits
+  unfolding machineFormed
   machine-tests = both (eqb words machineSize) (eqb places due) f
 
   pub machine-readable : machineSize ≤ words
   machine-readable = le-of-eq (sym (eqb-true _ _ (machine-tests .0)))
 
-module _ (state : List ℕ) (places : ℕ) (f : stateFits state places ≡ true) where
+module _ (state : List ℕ) (places : ℕ) (f : stateFormed state places ≡ true) where
   all : (eqb (length state) stateSize && eqb places 1 ≡ true) × (leb (wordAt state 20) mostClocksLeft ≡ true)
-  unfolding stateFits
+  unfolding stateFormed
   all = both (eqb (length state) stateSize && eqb places 1) (leb (wordAt state 20) mostClocksLeft) f
 
   pub state-tests : (eqb (length state) stateSize ≡ true) × (eqb places 1 ≡ true)

@@ -10,32 +10,32 @@ use Rattle.model.specs.declared.GateState.{GateState}
 use Rattle.model.specs.Words.{wordAt}
 use Rattle.host_reading.specs.declared.MachineLent.{MachineLent}
 use Rattle.host_reading.specs.declared.StateLent.{StateLent}
-use Rattle.host_reading.specs.Layout.{rowIn, machineIn, machineFits, stateWith, stateIn, stateFits, fitting, machineLent, stateLent}
+use Rattle.host_reading.specs.Layout.{rowIn, machineIn, machineFormed, stateWith, stateIn, stateFormed, fitting, machineLent, stateLent}
 
 pub state-from : (words : List ℕ) (m : Machine) → m ≡ machineIn words → (row : ℕ) → row ≡ rowIn (wordAt words 12) → stateWith words m row ≡ stateIn words
 unfolding stateIn
 state-from words m e row f = rw (e, f)
 
 module _ (words : List ℕ) (places due : ℕ) where
-  pub machine-lent-from : (m : Machine) (fits : Bool) → fits ≡ machineFits (length words) places due → m ≡ machineIn (fitting fits words) → record { fits = fits; machine = m } ≡ machineLent words places due
+  pub machine-lent-from : (m : Machine) (fits : Bool) → fits ≡ machineFormed (length words) places due → m ≡ machineIn (fitting fits words) → record { fits = fits; machine = m } ≡ machineLent words places due
   unfolding machineLent
   machine-lent-from m fits f e = rw (e, f)
 
-pub state-lent-from : (words : List ℕ) (places : ℕ) (s : GateState) (fits : Bool) → fits ≡ stateFits words places → s ≡ stateIn (fitting fits words) → record { fits = fits; state = s } ≡ stateLent words places
+pub state-lent-from : (words : List ℕ) (places : ℕ) (s : GateState) (fits : Bool) → fits ≡ stateFormed words places → s ≡ stateIn (fitting fits words) → record { fits = fits; state = s } ≡ stateLent words places
 unfolding stateLent
 state-lent-from words places s fits f e = rw (e, f)
 
 -- a call that is turned down, and one that goes on from the words that it was lent
 module _ (words : List ℕ) (places due : ℕ) (r : MachineLent) (e : r ≡ machineLent words places due) where
-  tested : r .fits ≡ machineFits (length words) places due
+  tested : r .fits ≡ machineFormed (length words) places due
   unfolding machineLent
   tested = ap (λ (l : MachineLent). l .fits) e
 
-  pub machine-misfits : not (r .fits) ≡ true → machineFits (length words) places due ≡ false
+  pub machine-misfits : not (r .fits) ≡ true → machineFormed (length words) places due ≡ false
   machine-misfits n = sym tested ∙ not-true _ n
 
   module _ (n : not (r .fits) ≡ false) where
-    pub machine-fits : machineFits (length words) places due ≡ true
+    pub machine-fits : machineFormed (length words) places due ≡ true
     machine-fits = sym tested ∙ not-false _ n
 
     pub machine-start : r .machine ≡ machineIn words
@@ -43,15 +43,15 @@ module _ (words : List ℕ) (places due : ℕ) (r : MachineLent) (e : r ≡ mach
     machine-start = ap (λ (l : MachineLent). l .machine) e ∙ rw machine-fits
 
 module _ (words : List ℕ) (places : ℕ) (r : StateLent) (e : r ≡ stateLent words places) where
-  state-tested : r .fits ≡ stateFits words places
+  state-tested : r .fits ≡ stateFormed words places
   unfolding stateLent
   state-tested = ap (λ (l : StateLent). l .fits) e
 
-  pub state-misfits : not (r .fits) ≡ true → stateFits words places ≡ false
+  pub state-misfits : not (r .fits) ≡ true → stateFormed words places ≡ false
   state-misfits n = sym state-tested ∙ not-true _ n
 
   module _ (n : not (r .fits) ≡ false) where
-    pub state-fits : stateFits words places ≡ true
+    pub state-fits : stateFormed words places ≡ true
     state-fits = sym state-tested ∙ not-false _ n
 
     pub state-start : r .state ≡ stateIn words

@@ -45,8 +45,8 @@ unfoldable pub machineIn : List ℕ → Machine
 machineIn words = record { regs = registersIn words; flags = flagsIn words }
 
 -- whether so many words are a machine's, and so many result places those due
-unfoldable pub machineFits : (words places due : ℕ) → Bool
-machineFits words places due = eqb words machineSize && eqb places due
+unfoldable pub machineFormed : (words places due : ℕ) → Bool
+machineFormed words places due = eqb words machineSize && eqb places due
 
 -- ---- 21 words: the machine's 12, row, the latches, position, whether an access has begun, its clocks left
 
@@ -83,8 +83,8 @@ unfoldable pub stateIn : List ℕ → GateState
 stateIn words = stateWith words (machineIn words) (rowIn (wordAt words 12))
 
 -- whether what is lent for a gate state has its form, with one result place
-unfoldable pub stateFits : List ℕ → (places : ℕ) → Bool
-stateFits state places = eqb (length state) stateSize && eqb places 1 && leb (wordAt state 20) mostClocksLeft
+unfoldable pub stateFormed : List ℕ → (places : ℕ) → Bool
+stateFormed state places = eqb (length state) stateSize && eqb places 1 && leb (wordAt state 20) mostClocksLeft
 
 -- ---- what a call starts from: the words, or none where what is lent does not fit; a word that is not there counts as 0
 
@@ -93,10 +93,10 @@ fitting fits words = cond fits words []
 
 unfoldable pub machineLent : List ℕ → (places due : ℕ) → MachineLent
 machineLent words places due =
-    let fits = machineFits (length words) places due in
+    let fits = machineFormed (length words) places due in
     record { fits = fits; machine = machineIn (fitting fits words) }
 
 unfoldable pub stateLent : List ℕ → (places : ℕ) → StateLent
 stateLent words places =
-    let fits = stateFits words places in
+    let fits = stateFormed words places in
     record { fits = fits; state = stateIn (fitting fits words) }

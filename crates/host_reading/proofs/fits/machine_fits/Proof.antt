@@ -1,11 +1,11 @@
 -- `host_reading::fits::machine_fits` meets its contract.
 use mathlib.Core.Path.{refl}
-use Rattle.host_reading.specs.Layout.{machineFits}
+use Rattle.host_reading.specs.Layout.{machineFormed}
 use Rattle.host_reading.proofs.fits.machine_fits.Statement.{statement}
 use Rattle.host_reading.proofs.fits.machine_fits.Tie as tie
 
 returns : tie.Need-returns
-unfolding machineFits
+unfolding machineFormed
 returns c = refl
 
 pub machine-fits-spec : {M : Type 1} → statement M

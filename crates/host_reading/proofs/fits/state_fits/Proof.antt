@@ -5,13 +5,13 @@ use native.Mathlib.Omega.{arith}
 use lib.Dec.{eqb}
 use lib.ListN.{length}
 use borrow.Author.Tests.{eqb-true, not-true, not-false}
-use Rattle.host_reading.specs.Layout.{stateFits, stateSize}
+use Rattle.host_reading.specs.Layout.{stateFormed, stateSize}
 use Rattle.host_reading.proofs.FitLaws.{both}
 use Rattle.host_reading.proofs.fits.state_fits.Statement.{statement}
 use Rattle.host_reading.proofs.fits.state_fits.Tie as tie
 
 returns : tie.Need-returns
-unfolding stateFits
+unfolding stateFormed
 returns c = rw (not-true (eqb (length (c .before .args .state .now)) stateSize && eqb (c .before .args .places) 1) (c .if1 .taken))
 
 shared-slice-read-result : tie.Need-shared-slice-read-result
@@ -20,7 +20,7 @@ shared-slice-read-result c =
     omega arith
 
 returns-2 : tie.Need-returns-2
-unfolding stateFits
+unfolding stateFormed
 returns-2 c = rw (not-false (eqb (length (c .before .before .args .state .now)) stateSize && eqb (c .before .before .args .places) 1) (c .before .if1 .left))
 
 pub state-fits-spec : {M : Type 1} → statement M
