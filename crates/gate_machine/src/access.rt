@@ -11,6 +11,15 @@ ghost use Rattle.model.specs.Gates.{oneLess};
 ghost use Rattle.gate_rows.specs.Work.{stateOf};
 ghost use Rattle.gate_machine.specs.Clock.{acknowledgedAt, untouchedAt, grantOf};
 
+// Whether the row's work is done, and the access as this clock leaves it.
+// Not packed into eight bytes: those would travel as one word, to be taken apart on each clock.
+pub struct Grant {
+    pub works: bool,
+    pub position: u32,
+    pub begun: bool,
+    pub left: u16,
+}
+
 fn wait_at(waits: &[u16], position: u32) -> u16
     ensures { λ r. ⌜ r ≡ waitAt (now (waits .entry)) position ⌝ }
 {
@@ -33,15 +42,6 @@ fn one_less(left: u16) -> u16
     ensures { λ r. ⌜ r ≡ oneLess left ⌝ }
 {
     if 0 < left { left - 1 } else { 0 }
-}
-
-// Whether the row's work is done, and the access as this clock leaves it.
-// Not packed into eight bytes: those would travel as one word, to be taken apart on each clock.
-pub struct Grant {
-    pub works: bool,
-    pub position: u32,
-    pub begun: bool,
-    pub left: u16,
 }
 
 // An acknowledged access with `left` clocks after this one.

@@ -24,6 +24,11 @@ struct Ticked {
     finished: bool,
 }
 
+pub struct GateEnd {
+    pub state: GateState,
+    pub finished: u64,
+}
+
 // The step is the one of the state's row.
 fn tick(s: Latches, step: Step, regs: &mut [u32; 8], memory: &mut [u32], waits: &[u16]) -> Ticked
     requires { ⌜ (step ≡ stepOf (s .row)) × (length (now waits) ≤ 65536) ⌝ }
@@ -45,11 +50,6 @@ fn tick(s: Latches, step: Step, regs: &mut [u32; 8], memory: &mut [u32], waits: 
         latches: u,
         finished: step.3 == 2,
     }
-}
-
-pub struct GateEnd {
-    pub state: GateState,
-    pub finished: u64,
 }
 
 // A row of the step table as an index.

@@ -3,6 +3,7 @@ mod codes;
 mod places;
 
 use codes::DONE;
+pub use codes::MISFIT;
 use codes::STOPPED;
 use codes::file_code;
 use codes::run_code;
@@ -24,7 +25,6 @@ ghost use Rattle.image.specs.Calls.{readCount};
 ghost use Rattle.host_reading.specs.Layout.{machineSize, stateSize};
 ghost use Rattle.host_words.specs.Words.{machineWords, stateWords, laid};
 ghost use Rattle.host_ends.specs.Codes.{runCode, fileCode, gateCode, readCode, Ends, WriteEnds, EndsBy};
-pub use codes::MISFIT;
 
 // A machine, and the instructions that ran with a run's other number.
 fn end_machine(code: u32, m: Machine, ran: u32, other: u64, machine: &mut [u32], result: &mut [u64])
