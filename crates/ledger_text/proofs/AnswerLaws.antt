@@ -17,10 +17,10 @@ use Rattle.image.specs.Reading.{Outcome, loaded, refused, readOf}
 use Rattle.image.specs.Calls.{readResult, readWords, Reads}
 use Rattle.image.proofs.Laws.{loadedFits}
 use Rattle.ledger_text.specs.declared.ReportAnswer.{ReportAnswer}
-use Rattle.ledger_text.specs.Lines.{refusedText, longestText}
+use Rattle.ledger_lines.specs.Lines.{refusedText, longestText, ledger}
 use Rattle.ledger_text.specs.Parts.{Extends, RunPuts}
-use Rattle.ledger_text.specs.Report.{ledger, ledgerWords, roomy, Reports}
-use Rattle.ledger_text.proofs.LengthLaws.{ledger-length}
+use Rattle.ledger_text.specs.Report.{ledgerWords, roomy, Reports}
+use Rattle.ledger_lines.proofs.LengthLaws.{ledger-length}
 
 module _ (bytes memory out : List ℕ) where
   pub short : length out < longestText → Reports bytes memory out memory out ReportAnswer.ShortOutput

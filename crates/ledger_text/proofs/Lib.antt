@@ -1,6 +1,4 @@
 pub mod PartLaws
 pub mod RunLaws
-pub mod LengthLaws
 pub mod TurnLaws
 pub mod AnswerLaws
-pub mod Example

@@ -12,7 +12,7 @@ use Rattle.model.specs.declared.Ending.the-variants.{Finished, Outside}
 use Rattle.model.specs.Waits.{nextWait, positionAfter}
 use Rattle.model.specs.Interpreter.{Run, pc, instruction, inside, begin, execute, stop, advance, interpret}
 use Rattle.model.proofs.Runs.{outside-stays}
-use Rattle.ledger_text.specs.Lines.{line, lineBetween, lines, header, ending, endingWord, runText}
+use Rattle.ledger_lines.specs.Lines.{line, lineBetween, lines, header, ending, endingWord, runText}
 
 -- ---- an empty wait list
 

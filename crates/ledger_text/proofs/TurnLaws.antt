@@ -13,11 +13,11 @@ use Rattle.model.specs.Refusals.{mostWords, runVerdict}
 use Rattle.model.specs.Interpreter.{Run, pc, instruction, begin, stop, interpret}
 use Rattle.interpreter.specs.declared.RunResult.{RunResult}
 use Rattle.interpreter.specs.Calls.{runResult, runMemory, Runs}
-use Rattle.ledger_text.specs.Lines.{line, lines, header, ending, endingWord}
+use Rattle.ledger_lines.specs.Lines.{line, lines, header, ending, endingWord}
 use Rattle.ledger_text.specs.Parts.{Extends, RunPuts}
 use Rattle.ledger_text.proofs.PartLaws.{_▸_}
 use Rattle.ledger_text.proofs.RunLaws.{runAt, one, stops, next-run, next-lines, outside-run, outside-text, finished-text}
-use Rattle.ledger_text.proofs.LengthLaws.{clocks-small, lines-length}
+use Rattle.ledger_lines.proofs.LengthLaws.{clocks-small, lines-length}
 
 -- ---- what a run of one instruction answers
 

@@ -6,7 +6,7 @@ use lib.ListN.{length}
 use lib.Seq.{sets}
 use Rattle.model.specs.declared.Machine.{Machine}
 use Rattle.model.specs.Interpreter.{begin, interpret}
-use Rattle.ledger_text.specs.Lines.{mostLines, runText}
+use Rattle.ledger_lines.specs.Lines.{mostLines, runText}
 
 -- a text put in from a place on, and the place after it
 pub record Extends (out : List ℕ) (at : ℕ) (text out′ : List ℕ) (next : ℕ) : Type 0 where

@@ -9,12 +9,7 @@ use Rattle.model.specs.Interpreter.{begin, interpret}
 use Rattle.model.specs.Journal.{overlay}
 use Rattle.image.specs.Reading.{Outcome, loaded, refused, readOf}
 use Rattle.ledger_text.specs.declared.ReportAnswer.{ReportAnswer}
-use Rattle.ledger_text.specs.Lines.{mostLines, runText, refusedText, longestText}
-
--- what is printed for an image, by what came of reading it; the run is on the words of the image alone
-abbrev pub ledger : Outcome → List ℕ
-ledger (loaded version machine words) = runText (begin machine words 0)
-ledger (refused why) = refusedText why
+use Rattle.ledger_lines.specs.Lines.{mostLines, longestText, ledger}
 
 -- the words of the image at the memory's front, as the run leaves them; the others, and all of them after a refusal, stay
 abbrev pub ledgerWords : Outcome → (memory : List ℕ) → List ℕ

@@ -11,7 +11,7 @@ ghost use mathlib.Core.List.{_∷_, [], _++_};
 ghost use Prim.Native.Nat.{_^_, _<_};
 ghost use Rattle.arithmetic.specs.Words.{asNumber};
 ghost use Rattle.text.specs.Text.{lineFeed, digit, decimal, hexadecimal};
-ghost use Rattle.ledger_text.specs.Lines.{header, flagDigits, line, endingWord, ending, refusedText};
+ghost use Rattle.ledger_lines.specs.Lines.{header, flagDigits, line, endingWord, ending, refusedText};
 ghost use Rattle.ledger_text.specs.Parts.{Extends, ExtendsBy};
 
 // The line above the instructions' lines.

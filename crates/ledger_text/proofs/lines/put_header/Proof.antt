@@ -1,7 +1,7 @@
 -- `ledger_text::lines::put_header` meets its contract.
 use native.Mathlib.Omega.{arith}
 use borrow.Author.Needs.{needs}
-use Rattle.ledger_text.specs.Lines.{header}
+use Rattle.ledger_lines.specs.Lines.{header}
 use Rattle.ledger_text.proofs.PartLaws.{short, start}
 use Rattle.ledger_text.proofs.lines.put_header.Statement.{statement}
 use Rattle.ledger_text.proofs.lines.put_header.Tie as tie

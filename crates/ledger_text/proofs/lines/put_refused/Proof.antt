@@ -1,6 +1,6 @@
 -- `ledger_text::lines::put_refused` meets its contract.
 use borrow.Author.Needs.{needs}
-use Rattle.ledger_text.specs.Lines.{refusedText}
+use Rattle.ledger_lines.specs.Lines.{refusedText}
 use Rattle.ledger_text.proofs.PartLaws.{start, _▸_}
 use Rattle.ledger_text.proofs.lines.put_refused.Statement.{statement}
 use Rattle.ledger_text.proofs.lines.put_refused.Tie as tie

@@ -7,7 +7,8 @@ use Rattle.model.specs.declared.Ending.{Ending}
 use Rattle.model.specs.declared.Ending.the-variants.{Finished, Outside}
 use Rattle.model.specs.declared.Refusal.{Refusal}
 use Rattle.model.specs.Refusals.{refusalNumber}
-use Rattle.model.specs.Interpreter.{Run, pc, instruction, interpret}
+use Rattle.model.specs.Interpreter.{Run, begin, pc, instruction, interpret}
+use Rattle.image.specs.Reading.{Outcome, loaded, refused}
 use Rattle.text.specs.Text.{letters, space, lineFeed, digit, decimal, hexadecimal}
 
 -- how many instructions are run at most
@@ -83,3 +84,8 @@ refusedText why = letters "refused " ++ ended (decimal (refusalNumber why))
 -- The longest text: the header's 25 bytes, 9 lines of at most 28 bytes and 7 of at most 29, and an ending of at most 16
 abbrev pub longestText : ℕ
 longestText = 496
+
+-- what is printed for an image, by what came of reading it; the run is on the words of the image alone
+abbrev pub ledger : Outcome → List ℕ
+ledger (loaded version machine words) = runText (begin machine words 0)
+ledger (refused why) = refusedText why

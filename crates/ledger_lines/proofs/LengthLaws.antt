@@ -20,8 +20,7 @@ use Rattle.model.proofs.Bounds.{clocks-le}
 use Rattle.image.specs.Reading.{Outcome, loaded, refused}
 use Rattle.text.specs.Text.{decimal}
 use Rattle.text.proofs.Figures.{length-digits, decimal-le}
-use Rattle.ledger_text.specs.Report.{ledger}
-use Rattle.ledger_text.specs.Lines.{line, lineIf, lineBetween, lines, header, ending, endingWord, runText, refusedText, longestText}
+use Rattle.ledger_lines.specs.Lines.{line, lineIf, lineBetween, lines, header, ending, endingWord, runText, refusedText, longestText, ledger}
 
 -- ---- figures: counts and clocks are small
 

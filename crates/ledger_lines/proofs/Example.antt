@@ -10,7 +10,7 @@ use Rattle.model.specs.Waits.{waitAt, nextWait, waitSum, positionAfter}
 use Rattle.model.specs.Interpreter.{begin, execute, stop, advance, interpret}
 use Rattle.image.specs.Calls.{clearedMachine}
 use Rattle.text.specs.Text.{letters, digits, places}
-use Rattle.ledger_text.specs.Lines.{header, line, lineBetween, lines, ending, runText}
+use Rattle.ledger_lines.specs.Lines.{header, line, lineBetween, lines, ending, runText}
 
 example : runText (begin clearedMachine (0x0001_0021 ∷ 0x0005_0421 ∷ []) 0)
     ≡ letters "step pc word clocks cvnz\n1 00000000 00010021 9 0000\n2 00000001 00050421 9 0001\noutside 2 18\n"

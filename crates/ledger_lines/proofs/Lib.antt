@@ -1,0 +1,2 @@
+pub mod LengthLaws
+pub mod Example
