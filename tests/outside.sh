@@ -1,9 +1,12 @@
 #!/usr/bin/env bash
-# The tests outside Rattle: the reference emulator's own; whether the generated files are those of their seeds and sources;
+# The tests outside Rattle: the folder that shows the reading order; the reference emulator's own; whether the generated files are those of their seeds and sources;
 # the ledger program and the proved calls against the reference emulator on generated cases; the C, Rust and Python bindings.
 set -euo pipefail
 cd "$(dirname "$0")/.."
 . tests/tools.sh
+
+echo "outside: the crates in reading order"
+bash tests/layers.sh
 
 echo "outside: the reference emulator's tests"
 cargo test --quiet --release --offline --manifest-path reference/Cargo.toml

@@ -1,8 +1,8 @@
 -- Document 01's bench words, as far as the arithmetic unit goes: a row each of operation, a, b, carry and what the unit answers. All compute.
+use Prim.Native.Nat.{ℕ}
 use mathlib.Core.Path.{_≡_, refl}
 use mathlib.Core.Bool.{Bool, true, false}
 use mathlib.Core.List.{List, [], _∷_, map}
-use Prim.Native.Nat.{ℕ}
 use Rattle.arithmetic.specs.declared.AluOut.{AluOut}
 use Rattle.arithmetic.specs.Words.{signedOf, leaves}
 use Rattle.arithmetic.specs.Alu.{sumOf, differenceOf, halvedOf, answers, aluAt, aluOf}

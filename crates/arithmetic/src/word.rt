@@ -2,7 +2,7 @@
 use super::AluOut;
 ghost use mathlib.Core.Path.{_≡_};
 ghost use mathlib.Core.Bool.{_&&_};
-ghost use Rattle.arithmetic.specs.Words.{topOf, asNumber, _⊕_};
+ghost use Rattle.arithmetic.specs.Words.{topOf, _⊕_};
 ghost use Rattle.arithmetic.specs.Alu.{plainOf, sumOf, differenceOf, halvedOf, aluOf};
 
 // The sign of a word.
@@ -10,13 +10,6 @@ fn top(x: u32) -> bool
     ensures { λ r. ⌜ r ≡ topOf 31 x ⌝ }
 {
     0x8000_0000 <= x
-}
-
-// A bit as a word.
-fn digit(c: bool) -> u32
-    ensures { λ r. ⌜ r ≡ asNumber c ⌝ }
-{
-    if c { 1 } else { 0 }
 }
 
 // Overflow of x + y, which is r, from the three signs; x is r - y, whose overflow is the same.
@@ -43,7 +36,7 @@ fn sum(x: u32, y: u32, c: bool) -> AluOut
     ensures { λ r. ⌜ r ≡ sumOf 31 x y c ⌝ }
 {
     let low = std::num::wrapping_add_u32(x, y);
-    let r = std::num::wrapping_add_u32(low, digit(c));
+    let r = std::num::wrapping_add_u32(low, c as u32);
     AluOut {
         result: r,
         carry: (r < x) | (c & (r == x)),
@@ -56,7 +49,7 @@ fn difference(x: u32, y: u32, c: bool) -> AluOut
     ensures { λ r. ⌜ r ≡ differenceOf 31 x y c ⌝ }
 {
     let low = std::num::wrapping_sub_u32(x, y);
-    let r = std::num::wrapping_sub_u32(low, digit(c));
+    let r = std::num::wrapping_sub_u32(low, c as u32);
     AluOut {
         result: r,
         carry: (x < y) | (c & (x == y)),
@@ -70,7 +63,7 @@ fn halved(top: bool, a: u32) -> AluOut
 {
     let low = a / 2;
     AluOut {
-        result: low + 0x8000_0000 * digit(top),
+        result: low + 0x8000_0000 * (top as u32),
         carry: a % 2 == 1,
         overflow: false,
     }

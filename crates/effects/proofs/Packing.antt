@@ -1,5 +1,5 @@
 -- Packed flags: packing and unpacking are inverse, and a masked merge chooses each flag by its permit.
-use Prim.Native.Nat.{ℕ, suc, zero, _+_, _-_, _*_, _/_, _%_, _<_, _≤_}
+use Prim.Native.Nat.{ℕ, suc, zero, _+_, _-_, _*_, _/_, _%_, _<_}
 use mathlib.Core.Path.{_≡_, refl, ap, _∙_}
 use mathlib.Core.Bool.{Bool, true, false, cond}
 use native.Mathlib.Nat.{div-one, div-div-eq-div-mul}
@@ -9,16 +9,13 @@ use lib.Pow.{mod-pow-add}
 use lib.Bits.{bitAnd, bitOr, and-le-l, and-block, or-block}
 use Rattle.arithmetic.specs.Words.{asNumber, topOf}
 use Rattle.arithmetic.specs.declared.AluOut.{AluOut}
+use Rattle.arithmetic.proofs.Sums.{bit-le}
 use Rattle.model.specs.declared.Flags.{Flags}
 use Rattle.model.specs.Words.{field, bit}
 use Rattle.model.specs.Alu.{flagsAfter}
 use Rattle.model.specs.Packed.{packedOf, flagsOf}
 
 -- ---- one bit
-
-pub digit-small : (b : Bool) → asNumber b ≤ 1
-digit-small true = omega arith
-digit-small false = omega arith
 
 digit-bit : (b : Bool) {x : ℕ} → x ≡ asNumber b → eqb x 1 ≡ b
 digit-bit true e = rw e
@@ -34,10 +31,10 @@ bit-digit (suc (suc x)) h = absurd (omega arith)
 pub unpacks : (f : Flags) → flagsOf (packedOf f) ≡ f
 unfolding flagsOf packedOf bit field
 unpacks f =
-    let c = digit-small (f .carry) in
-    let v = digit-small (f .overflow) in
-    let n = digit-small (f .negative) in
-    let z = digit-small (f .zero) in
+    let c = bit-le (f .carry) in
+    let v = bit-le (f .overflow) in
+    let n = bit-le (f .negative) in
+    let z = bit-le (f .zero) in
     rw (
       digit-bit (f .carry) {x = (8 * asNumber (f .carry) + 4 * asNumber (f .overflow) + 2 * asNumber (f .negative) + asNumber (f .zero)) / 8 % 2} (omega arith),
       digit-bit (f .overflow) {x = (8 * asNumber (f .carry) + 4 * asNumber (f .overflow) + 2 * asNumber (f .negative) + asNumber (f .zero)) / 4 % 2} (omega arith),
@@ -80,16 +77,16 @@ digit-merged false false true = refl
 digit-merged false false false = refl
 
 and-digit : (b : Bool) (x : ℕ) → bitAnd (asNumber b) x < 2
-and-digit b x = let s = digit-small b in omega (arith, and-le-l (asNumber b) x)
+and-digit b x = let s = bit-le b in omega (arith, and-le-l (asNumber b) x)
 
 -- one bit more
 more : (f q g p : ℕ) (pb gb fb : Bool)
     → merged (f * 2 + asNumber fb) (q * 2 + (1 - asNumber pb)) (g * 2 + asNumber gb) (p * 2 + asNumber pb)
     ≡ merged f q g p * 2 + asNumber (cond pb gb fb)
 more f q g p pb gb fb =
-    let fs = digit-small fb in
-    let gs = digit-small gb in
-    let ps = digit-small pb in
+    let fs = bit-le fb in
+    let gs = bit-le gb in
+    let ps = bit-le pb in
     ap (λ (x : ℕ). bitOr x (bitAnd (g * 2 + asNumber gb) (p * 2 + asNumber pb))) (and-block 1 f q (asNumber fb) (1 - asNumber pb) (omega arith) (omega arith))
     ∙ ap (bitOr (bitAnd f q * 2 + bitAnd (asNumber fb) (1 - asNumber pb))) (and-block 1 g p (asNumber gb) (asNumber pb) (omega arith) (omega arith))
     ∙ or-block 1 (bitAnd f q) (bitAnd g p) (bitAnd (asNumber fb) (1 - asNumber pb)) (bitAnd (asNumber gb) (asNumber pb)) (and-digit fb (1 - asNumber pb)) (and-digit gb (asNumber pb))
@@ -107,10 +104,10 @@ merged-all : (p g f : Flags)
     ≡ packedOf (record { carry = cond (p .carry) (g .carry) (f .carry); overflow = cond (p .overflow) (g .overflow) (f .overflow); negative = cond (p .negative) (g .negative) (f .negative); zero = cond (p .zero) (g .zero) (f .zero) })
 unfolding packedOf
 merged-all p g f =
-    let pc = digit-small (p .carry) in
-    let pv = digit-small (p .overflow) in
-    let pn = digit-small (p .negative) in
-    let pz = digit-small (p .zero) in
+    let pc = bit-le (p .carry) in
+    let pv = bit-le (p .overflow) in
+    let pn = bit-le (p .negative) in
+    let pz = bit-le (p .zero) in
     let q : 15 - (8 * asNumber (p .carry) + 4 * asNumber (p .overflow) + 2 * asNumber (p .negative) + asNumber (p .zero)) ≡ horner (1 - asNumber (p .carry)) (1 - asNumber (p .overflow)) (1 - asNumber (p .negative)) (1 - asNumber (p .zero)) = omega arith in
     rw (q, weighted (asNumber (f .carry)) (asNumber (f .overflow)) (asNumber (f .negative)) (asNumber (f .zero)), weighted (asNumber (g .carry)) (asNumber (g .overflow)) (asNumber (g .negative)) (asNumber (g .zero)), weighted (asNumber (p .carry)) (asNumber (p .overflow)) (asNumber (p .negative)) (asNumber (p .zero)))
     (more _ _ _ _ (p .zero) (g .zero) (f .zero)

@@ -1,22 +1,15 @@
 // The four flags as the bits of one number, in the order in which an instruction word permits them. One number is quicker to carry through a run than four truths.
 use model::Flags;
 ghost use mathlib.Core.Path.{_≡_};
-ghost use Rattle.arithmetic.specs.Words.{asNumber};
 ghost use Rattle.model.specs.Packed.{packedOf, flagsOf};
-
-fn digit(b: bool) -> u32
-    ensures { λ r. ⌜ r ≡ asNumber b ⌝ }
-{
-    if b { 1 } else { 0 }
-}
 
 pub fn packed(flags: Flags) -> u32
     ensures { λ r. ⌜ r ≡ packedOf flags ⌝ }
 {
-    8 * digit(flags.carry)
-        + 4 * digit(flags.overflow)
-        + 2 * digit(flags.negative)
-        + digit(flags.zero)
+    8 * (flags.carry as u32)
+        + 4 * (flags.overflow as u32)
+        + 2 * (flags.negative as u32)
+        + (flags.zero as u32)
 }
 
 pub fn carry(bits: u32) -> bool

@@ -7,16 +7,17 @@ use native.Mathlib.Nat.{add-zero}
 use native.Mathlib.Numerals.{add-one}
 use native.Mathlib.Omega.{arith}
 use lib.Dec.{ltb, eqb·suc-zero}
-use lib.ListN.{length, getD}
+use lib.ListN.{length}
 use Rattle.arithmetic.specs.Words.{asNumber}
 use Rattle.model.specs.declared.GateState.{GateState}
 use Rattle.model.specs.Words.{present}
 use Rattle.model.specs.Gates.{Gate, gate, work, isAccess, oneLess, remaining, positionNow, workOrWait, clock, gateRun}
+use Rattle.step_table.specs.declared.Step.{Step}
+use Rattle.step_table.specs.Table.{stepOf, accesses, finishes}
+use Rattle.step_table.proofs.TableLaws.{access-mark}
 use Rattle.gate_rows.specs.declared.latches.Latches.{Latches}
-use Rattle.gate_rows.specs.declared.table.Step.{Step}
-use Rattle.gate_rows.specs.Table.{stepOf, stepTable}
-use Rattle.gate_rows.specs.Work.{stateOf, Works, accesses, finishes, counted}
-use Rattle.gate_rows.proofs.StepLaws.{table-at, worked, access-mark}
+use Rattle.gate_rows.specs.Work.{stateOf, Works, counted}
+use Rattle.gate_rows.proofs.StepLaws.{worked}
 use Rattle.gate_machine.specs.declared.access.Grant.{Grant}
 use Rattle.gate_machine.specs.Clock.{acknowledgedAt, untouchedAt, grantOf, withGrant, Ticks}
 
@@ -31,15 +32,6 @@ less-none (suc n) h = absurd (omega arith)
 counted-is : (b : Bool) (f : ℕ) → f + asNumber b ≡ counted b f
 counted-is true f = refl
 counted-is false f = add-zero f
-
-pub digit-small : (b : Bool) → asNumber b ≤ 1
-digit-small true = omega arith
-digit-small false = omega arith
-
--- ---- the step of a row, read from the table
-
-pub step-there : {table : List Step} → table ≡ stepTable → {i r : ℕ} → i ≡ r → r < 12 → (d : Step) → getD table i d ≡ stepOf r
-step-there p {i} {r} e h d = rw (p, e) (table-at r h d)
 
 -- ---- one clock is the access, then the row's work
 
@@ -85,7 +77,7 @@ module _ (waits : List ℕ) (s : Latches) (regs memory : List ℕ) (step : Step)
     (g : Grant) (said : g ≡ grantOf (accesses step) (ltb (s .address) (length memory)) waits (stateOf [] s)) where
   granted : (f : ℕ) → granting waits (stateOf regs s) memory f g ≡ clock waits (gate (stateOf regs s) memory f)
   unfolding grantOf remaining positionNow
-  granted f = ap (granting waits (stateOf regs s) memory f) said ∙ clocked waits (stateOf regs s) memory (accesses step) (access-mark step (stateOf regs s) own) f
+  granted f = ap (granting waits (stateOf regs s) memory f) said ∙ clocked waits (stateOf regs s) memory (accesses step) (ap accesses own ∙ access-mark (s .row)) f
 
   -- where no work is done, and where it is
   pub waits-on : g .works ≡ false → Ticks waits (stateOf regs s) memory (stateOf regs (taking g s)) false memory

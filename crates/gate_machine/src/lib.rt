@@ -27,9 +27,9 @@ pub struct Outcome {
     pub finished: u64,
 }
 
-pub struct Clocked {
-    pub outcome: Outcome,
-    pub state: GateState,
+struct Clocked {
+    outcome: Outcome,
+    state: GateState,
 }
 
 // All the clocks that are asked for, unless the call is turned down.
@@ -56,7 +56,7 @@ pub fn run(memory: &mut [u32], waits: &[u16], start: GateState, clocks: u64) -> 
 }
 
 // A run of one clock.
-pub fn clock(state: GateState, memory: &mut [u32], waits: &[u16]) -> Clocked
+fn clock(state: GateState, memory: &mut [u32], waits: &[u16]) -> Clocked
     ensures { λ r. ⌜ Clocks (now (memory .entry)) (now (waits .entry)) state r (now (memory .exit)) ⌝ }
 {
     let r = run(memory, waits, state, 1);

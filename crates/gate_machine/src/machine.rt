@@ -3,19 +3,18 @@ use super::access::granted;
 use super::parts::latches_of;
 use super::parts::state_of;
 use gate_rows::Latches;
-use gate_rows::Step;
-use gate_rows::steps;
 use gate_rows::work;
 use model::GateState;
 use model::Verdict;
+use step_table::Step;
+use step_table::steps;
 ghost use mathlib.Core.Path.{_≡_};
 ghost use Prim.Native.Nat.{_≤_};
 ghost use lib.ListN.{length};
-ghost use Rattle.arithmetic.specs.Words.{asNumber};
 ghost use Rattle.model.specs.Refusals.{gateVerdict};
 ghost use Rattle.model.specs.Gates.{gate, gateRun};
 ghost use Rattle.model.specs.Agreement.{gateFrom};
-ghost use Rattle.gate_rows.specs.Table.{stepOf};
+ghost use Rattle.step_table.specs.Table.{stepOf};
 ghost use Rattle.gate_rows.specs.Work.{stateOf};
 ghost use Rattle.gate_machine.specs.Clock.{Ticks};
 
@@ -52,19 +51,6 @@ fn tick(s: Latches, step: Step, regs: &mut [u32; 8], memory: &mut [u32], waits: 
     }
 }
 
-// A row of the step table as an index.
-fn row_index(row: u8) -> usize
-    ensures { λ r. ⌜ r ≡ row ⌝ }
-{
-    row as usize
-}
-
-fn one(b: bool) -> u64
-    ensures { λ r. ⌜ r ≡ asNumber b ⌝ }
-{
-    if b { 1 } else { 0 }
-}
-
 // The step table and the registers stay in place: a clock copies neither.
 pub fn run_clocks(memory: &mut [u32], waits: &[u16], start: GateState, clocks: u64) -> GateEnd
     requires { ⌜ gateVerdict (now memory) (now waits) start ≡ Verdict.Accepted ⌝ }
@@ -76,12 +62,11 @@ pub fn run_clocks(memory: &mut [u32], waits: &[u16], start: GateState, clocks: u
     let mut finished: u64 = 0;
     let mut i: u64 = 0;
     while i < clocks {
-        let row = row_index(s.row);
-        let step = table[row];
+        let step = table[s.row as usize];
         let t = tick(s, step, &mut regs, &mut *memory, waits);
         let next = t.latches;
         s = next;
-        finished += one(t.finished);
+        finished += t.finished as u64;
         i += 1;
     }
     GateEnd {

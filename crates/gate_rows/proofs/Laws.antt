@@ -9,8 +9,8 @@ use Rattle.model.specs.declared.Operand.{Operand}
 use Rattle.model.specs.declared.GateState.{GateState}
 use Rattle.model.specs.Operands.{inMemory, stepDown, registerWord}
 use Rattle.model.specs.Gates.{Gate, gate, withRow, withRegs, withAddress, withA, withB, prepare, rows, work}
+use Rattle.step_table.specs.declared.Step.{Step}
 use Rattle.gate_rows.specs.declared.latches.Latches.{Latches}
-use Rattle.gate_rows.specs.declared.table.Step.{Step}
 use Rattle.gate_rows.specs.Work.{stateOf, operandRow, nextRows, leads, Works, preparedBy}
 
 -- the model's row n, on registers, latches and memory

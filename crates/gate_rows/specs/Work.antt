@@ -3,15 +3,15 @@ use Prim.Native.Nat.{ℕ, _+_}
 use mathlib.Core.Path.{_≡_}
 use mathlib.Core.Bool.{Bool, cond}
 use mathlib.Core.List.{List, [], _∷_}
-use lib.Dec.{eqb}
 use lib.ListN.{getD}
 use Rattle.model.specs.declared.Operand.{Operand}
 use Rattle.model.specs.declared.GateState.{GateState}
 use Rattle.model.specs.Operands.{operandA, operandB, inMemory, stepDown, registerWord}
 use Rattle.model.specs.Alu.{alu, flagsAfter, stores}
 use Rattle.model.specs.Gates.{gate, withRow, withRegs, withFlags, withAddress, withResult, work}
+use Rattle.step_table.specs.declared.Step.{Step}
+use Rattle.step_table.specs.Table.{memoryRow, directRow, skippedRow}
 use Rattle.gate_rows.specs.declared.latches.Latches.{Latches}
-use Rattle.gate_rows.specs.declared.table.Step.{Step}
 
 -- registers and latches are a state of the gate machine
 abbrev pub stateOf : List ℕ → Latches → GateState
@@ -31,16 +31,6 @@ stateOf regs s =
     }
 
 -- ---- where a step leads
-
--- the next row where an operand is in memory, where it is direct, and where nothing is stored
-abbrev pub memoryRow : Step → ℕ
-memoryRow step = step .0
-
-abbrev pub directRow : Step → ℕ
-directRow step = step .1
-
-abbrev pub skippedRow : Step → ℕ
-skippedRow step = step .2
 
 -- from the row of an operand o, and from row 7
 abbrev pub operandRow : Step → Operand → ℕ
@@ -92,16 +82,7 @@ computed step s =
     let out = alu (s .instruction) (s .flags) (s .a) (s .b) in
     withRow (storeRow step s) (withFlags (flagsAfter (s .instruction) (s .flags) out) (withResult (out .result) s))
 
--- ---- the control marks
-
-abbrev pub marks : Step → ℕ
-marks step = step .3
-
-abbrev pub accesses : Step → Bool
-accesses step = eqb (marks step) 1
-
-abbrev pub finishes : Step → Bool
-finishes step = eqb (marks step) 2
+-- ---- the count
 
 -- the instructions that have finished, one more where the row finishes one
 abbrev pub counted : Bool → ℕ → ℕ

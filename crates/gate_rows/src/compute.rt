@@ -1,6 +1,5 @@
 // Row 7: the arithmetic unit of gates, the flags, and where the result goes.
 use super::latches::Latches;
-use super::table::Step;
 use arithmetic::AluOut;
 use effects::flags_after;
 use effects::is_move;
@@ -10,6 +9,7 @@ use gates::gate_unit;
 use model::Flags;
 use operands::in_memory;
 use operands::operand_b;
+use step_table::Step;
 ghost use mathlib.Core.Path.{_≡_};
 ghost use mathlib.Core.Bool.{cond};
 ghost use mathlib.Core.List.{List};

@@ -1,7 +1,6 @@
 // The work of a row, one function for each kind of work.
 use super::compute::compute;
 use super::latches::Latches;
-use super::table::Step;
 use model::Operand;
 use operands::in_memory;
 use operands::load;
@@ -14,6 +13,7 @@ use registers::set_register;
 use registers::step_down;
 use registers::step_pc;
 use registers::step_up;
+use step_table::Step;
 ghost use mathlib.Core.Path.{_≡_};
 ghost use mathlib.Core.Bool.{cond};
 ghost use mathlib.Core.List.{List};

@@ -8,7 +8,7 @@ use Rattle.interpreter.specs.declared.RunResult.{RunResult}
 use Rattle.interpreter.specs.declared.FileResult.{FileResult}
 use Rattle.interpreter.specs.Calls.{Runs, FileRuns}
 use Rattle.gate_machine.specs.declared.GateResult.{GateResult}
-use Rattle.gate_machine.specs.Outcome.{gateOutcome}
+use Rattle.gate_machine.specs.Outcome.{Runs as GateRuns}
 use Rattle.image.specs.declared.ReadResult.{ReadResult}
 use Rattle.image.specs.declared.WriteResult.{WriteResult}
 use Rattle.image.specs.Calls.{Reads, Writes, readCount}
@@ -72,14 +72,14 @@ module _ (memory waits state : List ℕ) (clocks : ℕ) (result : List ℕ) (len
   gate-misfit n = let f = state-misfits state (length result) lent e n in record { returned = rw f; words = rw f; registers = rw f; numbers = rw f }
 
   module _ (n : not (lent .fits) ≡ false) (r : GateResult) (memory′ : List ℕ)
-      (o : r ≡ gateOutcome memory waits (lent .state) clocks .result) (m : memory′ ≡ gateOutcome memory waits (lent .state) clocks .memory) where
+      (runs : GateRuns memory waits (lent .state) clocks r memory′) where
     gate-same : r ≡ clocked memory waits state clocks .result
     unfolding clocked
-    gate-same = rw (state-start state (length result) lent e n) at o
+    gate-same = rw (state-start state (length result) lent e n) at (runs .result)
 
     gate-words : memory′ ≡ clocked memory waits state clocks .memory
     unfolding clocked
-    gate-words = rw (state-start state (length result) lent e n) at m
+    gate-words = rw (state-start state (length result) lent e n) at (runs .words)
 
     pub gate-fits : (state′ result′ : List ℕ) (code : ℕ) → Ends (gateCode (r .answer)) (laid stateSize (stateWords (r .state)) state) (laid 1 (r .finished ∷ []) result) state result state′ result′ code
         → GateCall memory waits state clocks result memory′ state′ result′ code

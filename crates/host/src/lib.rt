@@ -64,9 +64,7 @@ pub extern "C" fn fm8502_gate_run(
         return MISFIT;
     }
     let r = gate_machine::run(&mut *memory, waits, lent.state, clocks);
-    let answer = r.answer;
-    let after = r.state;
-    end_gate_run(answer, after, r.finished, &mut *state, &mut *result)
+    end_gate_run(r, &mut *state, &mut *result)
 }
 
 // One clock. result: instructions finished.

@@ -8,6 +8,7 @@ use codes::STOPPED;
 use codes::file_code;
 use codes::run_code;
 use gate_machine::GateAnswer;
+use gate_machine::GateResult;
 use host_words::put_machine;
 use host_words::put_state;
 use image::ReadAnswer;
@@ -15,7 +16,6 @@ use image::ReadResult;
 use image::WriteResult;
 use interpreter::FileResult;
 use interpreter::RunResult;
-use model::GateState;
 use model::Machine;
 use places::put_one;
 use places::put_two;
@@ -64,20 +64,16 @@ pub fn end_file_run(r: FileResult, machine: &mut [u32], result: &mut [u64]) -> u
     code
 }
 
-pub fn end_gate_run(
-    answer: GateAnswer,
-    s: GateState,
-    finished: u64,
-    state: &mut [u32],
-    result: &mut [u64],
-) -> u32
-    ensures { λ code. ⌜ Ends (gateCode answer) (laid stateSize (stateWords s) (now (state .entry))) (laid 1 (finished ∷ []) (now (result .entry))) (now (state .entry)) (now (result .entry)) (now (state .exit)) (now (result .exit)) code ⌝ }
+pub fn end_gate_run(r: GateResult, state: &mut [u32], result: &mut [u64]) -> u32
+    ensures { λ code. ⌜ Ends (gateCode (r .answer)) (laid stateSize (stateWords (r .state)) (now (state .entry))) (laid 1 (r .finished ∷ []) (now (result .entry))) (now (state .entry)) (now (result .entry)) (now (state .exit)) (now (result .exit)) code ⌝ }
 {
+    let answer = r.answer;
+    let after = r.state;
     match answer {
         GateAnswer::Refused(why) => refusal_number(why),
         GateAnswer::Ran => {
-            put_state(s, &mut *state);
-            put_one(finished, &mut *result);
+            put_state(after, &mut *state);
+            put_one(r.finished, &mut *result);
             DONE
         }
     }

@@ -1,3 +1,2 @@
 mod LentLaws
-mod WordLaws
 pub mod LaidLaws

@@ -2,14 +2,7 @@
 use model::GateState;
 use model::Machine;
 ghost use mathlib.Core.Path.{_≡_};
-ghost use Rattle.arithmetic.specs.Words.{asNumber};
 ghost use Rattle.host_words.specs.Words.{machineWords, latchWords};
-
-fn flag_word(flag: bool) -> u32
-    ensures { λ r. ⌜ r ≡ asNumber flag ⌝ }
-{
-    if flag { 1 } else { 0 }
-}
 
 pub fn machine_words(m: Machine) -> [u32; 12]
     ensures { λ r. ⌜ r ≡ machineWords m ⌝ }
@@ -25,10 +18,10 @@ pub fn machine_words(m: Machine) -> [u32; 12]
         r[5],
         r[6],
         r[7],
-        flag_word(f.carry),
-        flag_word(f.overflow),
-        flag_word(f.negative),
-        flag_word(f.zero),
+        f.carry as u32,
+        f.overflow as u32,
+        f.negative as u32,
+        f.zero as u32,
     ]
 }
 
@@ -44,7 +37,7 @@ pub fn latch_words(s: GateState) -> [u32; 9]
         s.b,
         s.result,
         s.position,
-        flag_word(s.begun),
+        s.begun as u32,
         s.left as u32,
     ]
 }

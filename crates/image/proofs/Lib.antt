@@ -10,4 +10,3 @@ pub mod Cuts
 pub mod Loaded
 pub mod TwoCalls
 pub mod Laws
-pub mod Stores

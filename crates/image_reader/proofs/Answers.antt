@@ -20,7 +20,7 @@ use Rattle.image.specs.Format.{versionField, registersField, flagsField, countF
 use Rattle.image.specs.Reading.{Outcome, loaded, refused, _▷_, headerVerdict, fieldVerdict, readOf}
 use Rattle.image.specs.Calls.{clearedMachine, readResult, readWords, outcomeNumber, outcomeCount, readNumber, readCount, Reads}
 use Rattle.image.proofs.MemoryLaws.{fields-enough}
-use Rattle.image.proofs.Stores.{overlaid}
+use Rattle.model.proofs.Stores.{overlaid}
 use Rattle.image_reader.specs.Layout.{versionIn, countIn, machineIn, memoryIn, wordsOf, headVerdict, memoryVerdict, endVerdict, tailVerdict, imageVerdict}
 use Rattle.image_reader.proofs.Passes.{passes, length-memory-in}
 

@@ -16,7 +16,7 @@ use Rattle.model.specs.Refusals.{demand, _then_, memoryFits, verdictNumber}
 use Rattle.image.specs.declared.WriteResult.{WriteResult}
 use Rattle.image.specs.Format.{imageOf}
 use Rattle.image.specs.Calls.{writeVerdict, writeResult, writeBytes, writeNumber, Writes}
-use Rattle.image.proofs.Stores.{overlaid}
+use Rattle.model.proofs.Stores.{overlaid}
 
 module _ (memory : List ℕ) (machine : Machine) (out : List ℕ) where
   abbrev image : List ℕ

@@ -13,7 +13,7 @@ use Rattle.image.specs.Format.{Field, fieldBytes, versionField, registersField,
 use Rattle.image.proofs.BytesLaws.{length-bytes, length-word-bytes}
 use Rattle.image.proofs.FieldLaws.{length-field}
 use Rattle.image.proofs.MemoryLaws.{fields-enough, one-field-less, length-memory}
-use Rattle.image.proofs.Stores.{store-step}
+use Rattle.model.proofs.Stores.{store-step}
 
 -- the next of some words
 pub next-word : (words : List ℕ) (from from′ n n′ : ℕ) → from < length words → from′ ≡ from + 1 → n ≡ n′ + 1

@@ -4,7 +4,6 @@ use operands::in_memory;
 ghost use mathlib.Core.Path.{_≡_};
 ghost use mathlib.Core.Bool.{cond};
 ghost use Prim.Native.Nat.{_+_, _^_, _<_, _≤_};
-ghost use Rattle.arithmetic.specs.Words.{asNumber};
 ghost use Rattle.interpreter.specs.Clocks.{costOf, moreOf, clockedOf};
 
 // Clocks so far, and the position in the wait list.
@@ -13,24 +12,11 @@ pub struct Spent {
     pub position: usize,
 }
 
-fn wide16(x: u16) -> u64
-    ensures { λ r. ⌜ r ≡ x ⌝ }
-{
-    x as u64
-}
-
-// A truth as 0 or 1.
-fn number(b: bool) -> u64
-    ensures { λ r. ⌜ r ≡ asNumber b ⌝ }
-{
-    if b { 1 } else { 0 }
-}
-
 // One clock each for A in memory, B in memory and a store.
 fn cost(a: bool, b: bool, stored: bool) -> u64
     ensures { λ r. ⌜ (r ≡ costOf a b stored) × (r ≤ 11) ⌝ }
 {
-    8 + number(a) + number(b) + number(stored)
+    8 + (a as u64) + (b as u64) + (stored as u64)
 }
 
 // The wait of one access more.
@@ -41,7 +27,7 @@ fn more(waits: &[u16], w: Spent) -> Spent
     let position = w.position;
     if position < waits.len() {
         return Spent {
-            clocks: w.clocks + wide16(waits[position]),
+            clocks: w.clocks + (waits[position] as u64),
             position: position + 1,
         };
     }

@@ -7,14 +7,10 @@ use native.Mathlib.Omega.{arith}
 use Rattle.model.specs.declared.Machine.{Machine}
 use Rattle.model.specs.declared.Ending.{Ending}
 use Rattle.model.specs.declared.Ending.the-variants.{Finished, Outside}
-use Rattle.arithmetic.specs.Words.{asNumber}
+use Rattle.arithmetic.proofs.Sums.{bit-le}
 use Rattle.model.specs.Operands.{inMemory}
 use Rattle.model.specs.Waits.{waitAt, nextWait, waitSum}
 use Rattle.model.specs.Interpreter.{Run, opA, opB, isStored, inside, baseClocks, accesses, execute, stop, advance, interpret}
-
-pub number-le : (b : Bool) → asNumber b ≤ 1
-number-le true = omega arith
-number-le false = omega arith
 
 -- waits of at most w each
 module _ (waits : List ℕ) (w : ℕ) (short : (p : ℕ) → waitAt waits p ≤ w) where
@@ -25,10 +21,10 @@ module _ (waits : List ℕ) (w : ℕ) (short : (p : ℕ) → waitAt waits p ≤ 
 
   instruction-le : (memory : List ℕ) (m : Machine) (p : ℕ) → baseClocks memory m + waitSum waits p (accesses memory m) ≤ 11 + 4 * w
   instruction-le memory m p =
-      let a = number-le (inMemory (opA memory m)) in
-      let b = number-le (inMemory (opB memory m)) in
-      let s = number-le (isStored memory m) in
-      let t = number-le (isStored memory m && inMemory (opB memory m)) in
+      let a = bit-le (inMemory (opA memory m)) in
+      let b = bit-le (inMemory (opB memory m)) in
+      let s = bit-le (isStored memory m) in
+      let t = bit-le (isStored memory m && inMemory (opB memory m)) in
       let few : accesses memory m ≤ 4 = omega arith in
       omega (arith, sum-le p (accesses memory m), mul-le-mul-right w few)
 

@@ -1,19 +1,20 @@
 // What a gate run asks of the access in hand.
 use model::GateState;
+use step_table::steps;
 ghost use mathlib.Core.Path.{_≡_};
 ghost use Rattle.model.specs.Gates.{isAccess};
 ghost use Rattle.model.specs.Refusals.{accessFits};
 
+// What the step table marks as an access; past the table there is none.
 fn is_access(row: u8) -> bool
     ensures { λ r. ⌜ r ≡ isAccess row ⌝ }
 {
-    match row {
-        1 => true,
-        4 => true,
-        6 => true,
-        9 => true,
-        _ => false,
+    if row < 12 {
+        let table = steps();
+        let step = table[row as usize];
+        return step.3 == 1;
     }
+    false
 }
 
 // A begun access stands in an access row with clocks left; where none is begun, none are left.

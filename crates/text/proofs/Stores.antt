@@ -1,4 +1,4 @@
--- Texts put into a buffer: one after the other, byte by byte, and past the buffer's end.
+-- Texts put into a buffer, byte by byte, and past the buffer's end.
 use Prim.Native.Nat.{ℕ, suc, _+_, _≤_, _<_}
 use mathlib.Core.Path.{_≡_, refl, sym, ap, _∙_}
 use mathlib.Core.List.{List, [], _∷_, _++_}
@@ -6,15 +6,11 @@ use native.Mathlib.Omega.{arith}
 use native.Mathlib.Numerals.{add-one}
 use lib.ListN.{length, drop, getD, set, length-set}
 use lib.Seq.{sets, set-out, set-comm, drop-cons}
+use Rattle.model.proofs.Stores.{sets-append}
 
 pub sets-out : (out : List ℕ) (at : ℕ) (text : List ℕ) → length out ≤ at → sets out at text ≡ out
 sets-out out at [] h = refl
 sets-out out at (x ∷ text) h = sets-out (set out at x) (suc at) text (simp length-set (omega arith)) ∙ set-out out at x h
-
-pub sets-append : (out : List ℕ) (at : ℕ) (a b : List ℕ) → sets (sets out at a) (at + length a) b ≡ sets out at (a ++ b)
-sets-append out at [] b = ap (λ (k : ℕ). sets out k b) (omega arith)
-sets-append out at (x ∷ a) b =
-    ap (λ (k : ℕ). sets (sets (set out at x) (suc at) a) k b) (omega arith) ∙ sets-append (set out at x) (suc at) a b
 
 -- a byte further on may be put in first
 pub set-first : (out : List ℕ) (at : ℕ) (text : List ℕ) (i x : ℕ) → at + length text ≤ i → sets (set out i x) at text ≡ set (sets out at text) i x

@@ -1,4 +1,3 @@
--- `host::fm8502_clock` meets its contract.
 use borrow.Author.Needs.{needs}
 use Rattle.host.proofs.fm8502_clock.Statement.{statement}
 use Rattle.host.proofs.fm8502_clock.Tie as tie

@@ -1,4 +1,3 @@
--- `host::fm8502_file_run` meets its contract.
 use borrow.Author.Needs.{needs}
 use Rattle.host.proofs.CallLaws.{file-misfit, file-fits}
 use Rattle.host.proofs.fm8502_file_run.Statement.{statement}

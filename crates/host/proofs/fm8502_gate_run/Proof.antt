@@ -1,4 +1,3 @@
--- `host::fm8502_gate_run` meets its contract.
 use borrow.Author.Needs.{needs}
 use Rattle.host.proofs.CallLaws.{gate-misfit, gate-fits}
 use Rattle.host.proofs.fm8502_gate_run.Statement.{statement}
@@ -29,7 +28,7 @@ same-length-4 : tie.Need-same-length-4
 same-length-4 c = search needs
 
 returns-2 : tie.Need-returns-2
-returns-2 c = gate-fits _ _ _ _ _ _ (c .before .before .before .before .before .before .before .before .before .before .before .before .before .before .state-lent .ensures) (c .before .before .before .before .before .before .before .before .before .before .before .before .if1 .left) _ _ (c .before .before .before .before .before .before .before .before .before .before .run .ensures .result) (c .before .before .before .before .before .before .before .before .before .before .run .ensures .words) _ _ _ (c .before .before .before .before .end-gate-run .ensures)
+returns-2 c = gate-fits _ _ _ _ _ _ (c .before .before .before .before .before .before .before .before .before .before .before .before .before .state-lent .ensures) (c .before .before .before .before .before .before .before .before .before .before .before .if1 .left) _ _ (c .before .before .before .before .before .before .before .before .before .run .ensures) _ _ _ (c .before .before .before .before .end-gate-run .ensures)
 
 pub fm8502-gate-run-spec : {M : Type 1} → statement M
 fm8502-gate-run-spec =

@@ -1,4 +1,3 @@
--- `host::fm8502_image_read` meets its contract.
 use borrow.Author.Needs.{needs}
 use Rattle.host.proofs.CallLaws.{read-misfit, read-fits}
 use Rattle.host.proofs.fm8502_image_read.Statement.{statement}

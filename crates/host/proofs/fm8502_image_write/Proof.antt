@@ -1,4 +1,3 @@
--- `host::fm8502_image_write` meets its contract.
 use borrow.Author.Needs.{needs}
 use Rattle.host.proofs.CallLaws.{write-misfit, write-fits}
 use Rattle.host.proofs.fm8502_image_write.Statement.{statement}

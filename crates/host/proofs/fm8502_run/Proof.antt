@@ -1,4 +1,3 @@
--- `host::fm8502_run` meets its contract.
 use borrow.Author.Needs.{needs}
 use Rattle.host.proofs.CallLaws.{run-misfit, run-fits}
 use Rattle.host.proofs.fm8502_run.Statement.{statement}

@@ -1,4 +1,3 @@
--- `host_ends::end_gate_run` meets its contract.
 use mathlib.Core.Path.{ap}
 use borrow.Author.Needs.{needs}
 use Rattle.host_ends.specs.Codes.{gateCode}

@@ -1,4 +1,3 @@
--- `host_ends::end_machine` meets its contract.
 use borrow.Author.Needs.{needs}
 use Rattle.host_ends.proofs.CodeLaws.{by-carried, by-refused}
 use Rattle.host_ends.proofs.end_machine.Statement.{statement}

@@ -1,4 +1,3 @@
--- `host_ends::end_run` meets its contract.
 use borrow.Author.Needs.{needs}
 use Rattle.host_ends.proofs.CodeLaws.{ends-by}
 use Rattle.host_ends.proofs.end_run.Statement.{statement}

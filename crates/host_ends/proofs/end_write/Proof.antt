@@ -1,4 +1,3 @@
--- `host_ends::end_write` meets its contract.
 use borrow.Author.Needs.{needs}
 use Rattle.host_ends.proofs.CodeLaws.{write-refused, write-done}
 use Rattle.host_ends.proofs.end_write.Statement.{statement}

@@ -1,4 +1,3 @@
--- `host_words::copy_words` meets its contract.
 use Prim.Native.Nat.{_-_}
 use native.Mathlib.Omega.{arith}
 use lib.ListN.{length}

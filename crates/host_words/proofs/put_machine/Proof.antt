@@ -1,4 +1,3 @@
--- `host_words::put_machine` meets its contract.
 use mathlib.Core.Path.{_∙_}
 use borrow.Author.Needs.{needs}
 use Rattle.host_words.proofs.LaidLaws.{laid-over, laid-nowhere}

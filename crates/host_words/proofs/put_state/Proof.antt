@@ -1,16 +1,21 @@
--- `host_words::put_state` meets its contract.
 use Prim.Native.Nat.{ℕ}
-use mathlib.Core.Path.{sym, ap, ap₂, _∙_}
+use mathlib.Core.Path.{_≡_, refl, sym, ap, ap₂, _∙_}
 use mathlib.Core.List.{List, _++_}
 use native.Mathlib.Omega.{arith}
 use lib.ListN.{length}
 use lib.Seq.{length-take-le}
 use borrow.Author.Needs.{needs}
+use Rattle.model.specs.declared.Machine.{Machine}
+use Rattle.host_reading.specs.Layout.{machineSize}
+use Rattle.host_words.specs.Words.{machineWords}
 use Rattle.host_words.proofs.LentLaws.{parts-copied}
 use Rattle.host_words.proofs.LaidLaws.{laid-over, laid-nowhere}
-use Rattle.host_words.proofs.WordLaws.{machine-words-long}
 use Rattle.host_words.proofs.put_state.Statement.{statement}
 use Rattle.host_words.proofs.put_state.Tie as tie
+
+machine-words-long : (m : Machine) → length (machineWords m) ≡ machineSize
+unfolding machineWords
+machine-words-long m = refl
 
 machine-words-requires : tie.Need-machine-words-requires
 machine-words-requires c κs = search needs

@@ -1,4 +1,3 @@
--- `ledger_text::report` meets its contract.
 use mathlib.Core.Path.{sym}
 use lib.Seq.{length-take-le}
 use borrow.Author.Needs.{needs}

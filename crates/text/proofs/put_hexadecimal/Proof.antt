@@ -1,4 +1,3 @@
--- `text::put_hexadecimal` meets its contract.
 use mathlib.Core.Path.{sym}
 use borrow.Author.Needs.{needs}
 use Rattle.text.proofs.Figures.{length-digits}

@@ -1,4 +1,4 @@
--- `text::put_text` meets its contract: the bytes still to be put in give the whole text.
+-- The bytes still to be put in give the whole text.
 use Prim.Native.Nat.{_+_, _-_, _≤_}
 use mathlib.Core.Path.{refl, sym, _∙_}
 use mathlib.Core.Path.{_≡_}

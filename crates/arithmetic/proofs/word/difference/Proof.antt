@@ -1,5 +1,5 @@
-use Prim.Native.Nat.{ℕ, _+_, _%_, _^_}
-use mathlib.Core.Path.{refl, sym, ap, _∙_}
+use Prim.Native.Nat.{ℕ}
+use mathlib.Core.Path.{refl, _∙_}
 use native.Mathlib.Omega.{arith}
 use borrow.Author.Needs.{needs}
 use Rattle.arithmetic.proofs.Sums.{out-eq, difference-is}
@@ -10,8 +10,8 @@ use Rattle.arithmetic.proofs.word.difference.Tie as tie
 wrapping-sub-u32-requires : tie.Need-wrapping-sub-u32-requires
 wrapping-sub-u32-requires c κs = search needs
 
-digit-requires : tie.Need-digit-requires
-digit-requires c κs = search needs
+cast-wrapping-sub-u32 : tie.Need-cast-wrapping-sub-u32
+cast-wrapping-sub-u32 c = search needs
 
 wrapping-sub-u32-requires-2 : tie.Need-wrapping-sub-u32-requires-2
 wrapping-sub-u32-requires-2 c κs = search needs
@@ -21,20 +21,19 @@ overflow-requires c κs = search needs
 
 returns : tie.Need-returns
 returns c =
-    let r = c .before .before .before .before .args in
-    let low : ℕ = c .before .before .before .wrapping-sub-u32 .result in
+    let r = c .before .before .before .args in
+    let low : ℕ = c .before .before .wrapping-sub-u32 .result in
     let s : ℕ = c .before .wrapping-sub-u322 .result in
     out-eq refl refl (c .overflow .ensures)
     ∙ difference-is 31 (r .x) (r .y) s (r .c) _ (omega arith) (omega arith) (omega arith)
-    (wrapped-difference (r .x) (r .y) low s (omega arith) (omega arith) (r .c) (omega arith) (omega arith) (c .before .before .before .wrapping-sub-u32 .ensures)
-    (ap (λ (n : ℕ). (s + n) % 2 ^ 32) (sym (c .before .before .digit .ensures)) ∙ c .before .wrapping-sub-u322 .ensures))
+    (wrapped-difference (r .x) (r .y) low s (omega arith) (omega arith) (r .c) (omega arith) (omega arith) (c .before .before .wrapping-sub-u32 .ensures) (c .before .wrapping-sub-u322 .ensures))
 
 pub difference-spec : {M : Type 1} → statement M
 difference-spec =
     tie.close
     (tie.spec
     wrapping-sub-u32-requires
-    digit-requires
+    cast-wrapping-sub-u32
     wrapping-sub-u32-requires-2
     overflow-requires
     returns)

@@ -1,4 +1,3 @@
--- `crosscheck::input::next_list` is safe and ends.
 use Prim.Native.Nat.{_-_}
 use mathlib.Core.Path.{_≡_}
 use lib.ListN.{length}

@@ -1,4 +1,3 @@
--- `crosscheck::print::print_words` is safe and ends.
 use Prim.Native.Nat.{_-_}
 use borrow.Author.Needs.{needs}
 use Rattle.crosscheck.proofs.print.print_words.Statement.{statement}

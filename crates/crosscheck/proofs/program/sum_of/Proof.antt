@@ -1,4 +1,3 @@
--- `crosscheck::program::sum_of` is safe and ends.
 use Prim.Native.Nat.{_-_}
 use borrow.Author.Needs.{needs}
 use Rattle.crosscheck.proofs.program.sum_of.Statement.{statement}

@@ -1,56 +1,57 @@
+use mathlib.Core.Path.{refl}
 use native.Mathlib.Omega.{arith}
 use borrow.Author.Needs.{needs}
+use Rattle.arithmetic.proofs.Sums.{bit-le}
 use Rattle.model.specs.Packed.{packedOf}
-use Rattle.effects.proofs.Packing.{digit-small}
 use Rattle.effects.proofs.flags.packed.Statement.{statement}
 use Rattle.effects.proofs.flags.packed.Tie as tie
 
-digit-requires : tie.Need-digit-requires
-digit-requires c κs = search needs
+cast-result : tie.Need-cast-result
+cast-result c = search needs
 
 mul-result : tie.Need-mul-result
-mul-result c = omega (arith, c .digit .ensures, digit-small (c .before .args .flags .carry))
+mul-result c = omega (arith, bit-le (c .before .args .flags .carry))
 
-digit-requires-2 : tie.Need-digit-requires-2
-digit-requires-2 c κs = search needs
+cast-result-2 : tie.Need-cast-result-2
+cast-result-2 c = search needs
 
 mul-result-2 : tie.Need-mul-result-2
-mul-result-2 c = omega (arith, c .digit2 .ensures, digit-small (c .before .before .args .flags .overflow))
+mul-result-2 c = omega (arith, bit-le (c .before .before .args .flags .overflow))
 
 add-result : tie.Need-add-result
-add-result c = omega (arith, c .before .digit .ensures, c .digit2 .ensures, digit-small (c .before .before .args .flags .carry), digit-small (c .before .before .args .flags .overflow))
+add-result c = omega (arith, bit-le (c .before .before .args .flags .carry), bit-le (c .before .before .args .flags .overflow))
 
-digit-requires-3 : tie.Need-digit-requires-3
-digit-requires-3 c κs = search needs
+cast-result-3 : tie.Need-cast-result-3
+cast-result-3 c = search needs
 
 mul-result-3 : tie.Need-mul-result-3
-mul-result-3 c = omega (arith, c .digit3 .ensures, digit-small (c .before .before .before .args .flags .negative))
+mul-result-3 c = omega (arith, bit-le (c .before .before .before .args .flags .negative))
 
 add-result-2 : tie.Need-add-result-2
-add-result-2 c = omega (arith, c .before .before .digit .ensures, c .before .digit2 .ensures, c .digit3 .ensures, digit-small (c .before .before .before .args .flags .carry), digit-small (c .before .before .before .args .flags .overflow), digit-small (c .before .before .before .args .flags .negative))
+add-result-2 c = omega (arith, bit-le (c .before .before .before .args .flags .carry), bit-le (c .before .before .before .args .flags .overflow), bit-le (c .before .before .before .args .flags .negative))
 
-digit-requires-4 : tie.Need-digit-requires-4
-digit-requires-4 c κs = search needs
+cast-result-4 : tie.Need-cast-result-4
+cast-result-4 c = search needs
 
 add-result-3 : tie.Need-add-result-3
-add-result-3 c = omega (arith, c .before .before .before .digit .ensures, c .before .before .digit2 .ensures, c .before .digit3 .ensures, c .digit4 .ensures, digit-small (c .before .before .before .before .args .flags .carry), digit-small (c .before .before .before .before .args .flags .overflow), digit-small (c .before .before .before .before .args .flags .negative), digit-small (c .before .before .before .before .args .flags .zero))
+add-result-3 c = omega (arith, bit-le (c .before .before .before .before .args .flags .carry), bit-le (c .before .before .before .before .args .flags .overflow), bit-le (c .before .before .before .before .args .flags .negative), bit-le (c .before .before .before .before .args .flags .zero))
 
 returns : tie.Need-returns
 unfolding packedOf
-returns c = rw (c .before .before .before .digit .ensures, c .before .before .digit2 .ensures, c .before .digit3 .ensures, c .digit4 .ensures)
+returns c = refl
 
 pub packed-spec : {M : Type 1} → statement M
 packed-spec =
     tie.close
     (tie.spec
-    digit-requires
+    cast-result
     mul-result
-    digit-requires-2
+    cast-result-2
     mul-result-2
     add-result
-    digit-requires-3
+    cast-result-3
     mul-result-3
     add-result-2
-    digit-requires-4
+    cast-result-4
     add-result-3
     returns)

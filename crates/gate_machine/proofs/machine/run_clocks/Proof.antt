@@ -3,8 +3,10 @@ use mathlib.Core.Path.{_≡_, refl, ap, _∙_}
 use native.Mathlib.Omega.{arith}
 use lib.ListN.{length}
 use borrow.Author.Needs.{needs}
+use Rattle.arithmetic.proofs.Sums.{bit-le}
+use Rattle.step_table.proofs.TableLaws.{step-there}
 use Rattle.model.proofs.Valid.{short, row-there}
-use Rattle.gate_machine.proofs.Laws.{digit-small, step-there, turn}
+use Rattle.gate_machine.proofs.Laws.{turn}
 use Rattle.gate_rows.specs.Work.{stateOf}
 use Rattle.model.proofs.Progress.{finished-slow}
 use Rattle.model.specs.Agreement.{gateFrom}
@@ -29,32 +31,32 @@ loop-holds : tie.Need-loop-holds Inv-loop μ-loop
 unfolding gateRun
 loop-holds c = (omega arith, refl, refl)
 
-row-index-requires : tie.Need-row-index-requires Inv-loop μ-loop
-row-index-requires c κs = search needs
+cast-step : tie.Need-cast-step Inv-loop μ-loop
+cast-step c = omega (arith, row-there (c .before .before .before .before .before .before .before .before .args .memory .now) (c .before .before .before .before .before .before .before .before .args .waits .now) (stateOf (c .before .before .before .before .before .before .before .before .args .start .regs) (c .before .before .before .latches-of .result)) (rw (c .before .before .before .latches-of .ensures) (c .before .before .before .before .before .before .before .before .pre)) (c .before .before .loop .i) (c .before .before .loop .inv .2))
 
 mul-step : tie.Need-mul-step Inv-loop μ-loop
-mul-step c = omega (arith, c .row-index .ensures, row-there (c .before .before .before .before .before .before .before .before .args .memory .now) (c .before .before .before .before .before .before .before .before .args .waits .now) (stateOf (c .before .before .before .before .before .before .before .before .args .start .regs) (c .before .before .before .latches-of .result)) (rw (c .before .before .before .latches-of .ensures) (c .before .before .before .before .before .before .before .before .pre)) (c .before .before .loop .i) (c .before .before .loop .inv .2))
+mul-step c = omega (arith, row-there (c .before .before .before .before .before .before .before .before .args .memory .now) (c .before .before .before .before .before .before .before .before .args .waits .now) (stateOf (c .before .before .before .before .before .before .before .before .args .start .regs) (c .before .before .before .latches-of .result)) (rw (c .before .before .before .latches-of .ensures) (c .before .before .before .before .before .before .before .before .pre)) (c .before .before .loop .i) (c .before .before .loop .inv .2))
 
 array-copy-out-step : tie.Need-array-copy-out-step Inv-loop μ-loop
-array-copy-out-step c = omega (arith, c .row-index .ensures, row-there (c .before .before .before .before .before .before .before .before .args .memory .now) (c .before .before .before .before .before .before .before .before .args .waits .now) (stateOf (c .before .before .before .before .before .before .before .before .args .start .regs) (c .before .before .before .latches-of .result)) (rw (c .before .before .before .latches-of .ensures) (c .before .before .before .before .before .before .before .before .pre)) (c .before .before .loop .i) (c .before .before .loop .inv .2))
+array-copy-out-step c = omega (arith, row-there (c .before .before .before .before .before .before .before .before .args .memory .now) (c .before .before .before .before .before .before .before .before .args .waits .now) (stateOf (c .before .before .before .before .before .before .before .before .args .start .regs) (c .before .before .before .latches-of .result)) (rw (c .before .before .before .latches-of .ensures) (c .before .before .before .before .before .before .before .before .pre)) (c .before .before .loop .i) (c .before .before .loop .inv .2))
 
 tick-requires : tie.Need-tick-requires Inv-loop μ-loop
-tick-requires c κs = (step-there (c .before .before .before .before .before .before .before .before .steps .ensures) (c .before .before .before .row-index .ensures) (row-there (c .before .before .before .before .before .before .before .before .before .before .before .args .memory .now) (c .before .before .before .before .before .before .before .before .before .before .before .args .waits .now) (stateOf (c .before .before .before .before .before .before .before .before .before .before .before .args .start .regs) (c .before .before .before .before .before .before .latches-of .result)) (rw (c .before .before .before .before .before .before .latches-of .ensures) (c .before .before .before .before .before .before .before .before .before .before .before .pre)) (c .before .before .before .before .before .loop .i) (c .before .before .before .before .before .loop .inv .2)) _, short (c .before .before .before .before .before .before .before .before .before .before .before .args .memory .now) (c .before .before .before .before .before .before .before .before .before .before .before .args .waits .now) (c .before .before .before .before .before .before .before .before .before .before .before .args .start) (c .before .before .before .before .before .before .before .before .before .before .before .pre))
+tick-requires c κs = (step-there (c .before .before .before .before .before .before .before .before .steps .ensures) refl (row-there (c .before .before .before .before .before .before .before .before .before .before .before .args .memory .now) (c .before .before .before .before .before .before .before .before .before .before .before .args .waits .now) (stateOf (c .before .before .before .before .before .before .before .before .before .before .before .args .start .regs) (c .before .before .before .before .before .before .latches-of .result)) (rw (c .before .before .before .before .before .before .latches-of .ensures) (c .before .before .before .before .before .before .before .before .before .before .before .pre)) (c .before .before .before .before .before .loop .i) (c .before .before .before .before .before .loop .inv .2)) _, short (c .before .before .before .before .before .before .before .before .before .before .before .args .memory .now) (c .before .before .before .before .before .before .before .before .before .before .before .args .waits .now) (c .before .before .before .before .before .before .before .before .before .before .before .args .start) (c .before .before .before .before .before .before .before .before .before .before .before .pre))
 
-one-requires : tie.Need-one-requires Inv-loop μ-loop
-one-requires c κs = search needs
+cast-finished : tie.Need-cast-finished Inv-loop μ-loop
+cast-finished c = tt
 
 add-finished : tie.Need-add-finished Inv-loop μ-loop
-add-finished c = omega (arith, ap (λ (x : Gate). x .finished) (c .before .before .before .before .before .before .before .before .before .before .loop .inv .2), finished-slow (c .before .before .before .before .before .before .before .before .before .before .before .before .before .before .before .before .args .waits .now) (c .before .before .before .before .before .before .before .before .before .before .loop .i) (gateFrom (stateOf (c .before .before .before .before .before .before .before .before .before .before .before .before .before .before .before .before .args .start .regs) (c .before .before .before .before .before .before .before .before .before .before .before .latches-of .result)) (c .before .before .before .before .before .before .before .before .before .before .before .before .before .before .before .before .args .memory .now)), c .one .ensures, digit-small (c .before .before .before .before .tick .result .finished), c .before .before .before .before .before .before .before .before .before .before .before .before .before .before .before .before .fits .clocks)
+add-finished c = omega (arith, ap (λ (x : Gate). x .finished) (c .before .before .before .before .before .before .before .before .before .before .loop .inv .2), finished-slow (c .before .before .before .before .before .before .before .before .before .before .before .before .before .before .before .before .args .waits .now) (c .before .before .before .before .before .before .before .before .before .before .loop .i) (gateFrom (stateOf (c .before .before .before .before .before .before .before .before .before .before .before .before .before .before .before .before .args .start .regs) (c .before .before .before .before .before .before .before .before .before .before .before .latches-of .result)) (c .before .before .before .before .before .before .before .before .before .before .before .before .before .before .before .before .args .memory .now)), bit-le (c .before .before .before .before .tick .result .finished), c .before .before .before .before .before .before .before .before .before .before .before .before .before .before .before .before .fits .clocks)
 
 add-i : tie.Need-add-i Inv-loop μ-loop
-add-i c = omega arith
+add-i c = omega (arith, c .before .before .before .before .before .before .before .before .before .loop-test .taken, c .before .before .before .before .before .before .before .before .before .before .before .before .before .before .before .before .fits .clocks)
 
 loop-less : tie.Need-loop-less Inv-loop μ-loop
 loop-less c = omega arith
 
 loop-again : tie.Need-loop-again Inv-loop μ-loop
-loop-again c = (omega arith, c .before .before .before .before .tick .kept .1 .1 .1 .0 ∙ c .before .before .before .before .before .before .before .before .before .before .loop .inv .1, turn (c .before .before .before .before .before .before .before .before .before .before .before .before .before .before .before .before .args .waits .now) (c .before .before .before .before .before .before .before .before .before .before .loop .i) (gateFrom (stateOf (c .before .before .before .before .before .before .before .before .before .before .before .before .before .before .before .before .args .start .regs) (c .before .before .before .before .before .before .before .before .before .before .before .latches-of .result)) (c .before .before .before .before .before .before .before .before .before .before .before .before .before .before .before .before .args .memory .now)) (c .before .before .before .before .before .before .before .before .before .before .loop .inv .2) (c .before .before .before .before .tick .result .finished) (c .before .before .before .before .tick .ensures) (c .one .ensures))
+loop-again c = (omega arith, c .before .before .before .before .tick .kept .1 .1 .1 .0 ∙ c .before .before .before .before .before .before .before .before .before .before .loop .inv .1, turn (c .before .before .before .before .before .before .before .before .before .before .before .before .before .before .before .before .args .waits .now) (c .before .before .before .before .before .before .before .before .before .before .loop .i) (gateFrom (stateOf (c .before .before .before .before .before .before .before .before .before .before .before .before .before .before .before .before .args .start .regs) (c .before .before .before .before .before .before .before .before .before .before .before .latches-of .result)) (c .before .before .before .before .before .before .before .before .before .before .before .before .before .before .before .before .args .memory .now)) (c .before .before .before .before .before .before .before .before .before .before .loop .inv .2) (c .before .before .before .before .tick .result .finished) (c .before .before .before .before .tick .ensures) refl)
 
 state-of-requires : tie.Need-state-of-requires Inv-loop μ-loop
 state-of-requires c κs = search needs
@@ -74,11 +76,11 @@ run-clocks-spec =
     steps-requires
     latches-of-requires
     loop-holds
-    row-index-requires
+    cast-step
     mul-step
     array-copy-out-step
     tick-requires
-    one-requires
+    cast-finished
     add-finished
     add-i
     loop-less

@@ -1,4 +1,3 @@
--- `host_ends::places::put_one` meets its contract.
 use borrow.Author.Needs.{needs}
 use Rattle.host_words.proofs.LaidLaws.{laid-over, laid-nowhere}
 use Rattle.host_ends.proofs.PlaceLaws.{one-stored}

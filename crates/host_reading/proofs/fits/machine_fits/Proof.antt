@@ -1,4 +1,3 @@
--- `host_reading::fits::machine_fits` meets its contract.
 use mathlib.Core.Path.{refl}
 use Rattle.host_reading.specs.Layout.{machineFormed}
 use Rattle.host_reading.proofs.fits.machine_fits.Statement.{statement}

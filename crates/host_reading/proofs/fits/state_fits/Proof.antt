@@ -1,4 +1,3 @@
--- `host_reading::fits::state_fits` meets its contract.
 use mathlib.Core.Bool.{_&&_}
 use mathlib.Core.Path.{_≡_}
 use native.Mathlib.Omega.{arith}

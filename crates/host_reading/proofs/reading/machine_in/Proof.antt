@@ -1,4 +1,3 @@
--- `host_reading::reading::machine_in` meets its contract.
 use mathlib.Core.Path.{refl}
 use borrow.Author.Needs.{needs}
 use Rattle.host_reading.specs.Layout.{machineIn}

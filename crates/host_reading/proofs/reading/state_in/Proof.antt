@@ -1,4 +1,3 @@
--- `host_reading::reading::state_in` meets its contract.
 use borrow.Author.Needs.{needs}
 use Rattle.host_reading.proofs.ReadingLaws.{state-from}
 use Rattle.host_reading.proofs.reading.state_in.Statement.{statement}

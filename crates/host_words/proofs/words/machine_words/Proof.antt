@@ -1,6 +1,6 @@
--- `host_words::words::machine_words` meets its contract.
+use mathlib.Core.Path.{refl}
 use borrow.Author.Needs.{needs}
-use Rattle.host_words.proofs.WordLaws.{machine-words-from}
+use Rattle.host_words.specs.Words.{machineWords}
 use Rattle.host_words.proofs.words.machine_words.Statement.{statement}
 use Rattle.host_words.proofs.words.machine_words.Tie as tie
 
@@ -28,20 +28,21 @@ array-read-t24 c = search needs
 array-read-t27 : tie.Need-array-read-t27
 array-read-t27 c = search needs
 
-flag-word-requires : tie.Need-flag-word-requires
-flag-word-requires c κs = search needs
+cast-t28 : tie.Need-cast-t28
+cast-t28 c = search needs
 
-flag-word-requires-2 : tie.Need-flag-word-requires-2
-flag-word-requires-2 c κs = search needs
+cast-t29 : tie.Need-cast-t29
+cast-t29 c = search needs
 
-flag-word-requires-3 : tie.Need-flag-word-requires-3
-flag-word-requires-3 c κs = search needs
+cast-t30 : tie.Need-cast-t30
+cast-t30 c = search needs
 
-flag-word-requires-4 : tie.Need-flag-word-requires-4
-flag-word-requires-4 c κs = search needs
+cast-t31 : tie.Need-cast-t31
+cast-t31 c = search needs
 
 returns : tie.Need-returns
-returns c = machine-words-from _ _ _ _ _ (c .before .before .before .flag-word .ensures) (c .before .before .flag-word2 .ensures) (c .before .flag-word3 .ensures) (c .flag-word4 .ensures)
+unfolding machineWords
+returns c = refl
 
 pub machine-words-spec : {M : Type 1} → statement M
 machine-words-spec =
@@ -55,8 +56,8 @@ machine-words-spec =
     array-read-t21
     array-read-t24
     array-read-t27
-    flag-word-requires
-    flag-word-requires-2
-    flag-word-requires-3
-    flag-word-requires-4
+    cast-t28
+    cast-t29
+    cast-t30
+    cast-t31
     returns)

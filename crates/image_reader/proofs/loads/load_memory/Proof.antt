@@ -7,7 +7,7 @@ use lib.ListN.{length, drop}
 use lib.Seq.{sets}
 use Rattle.image.specs.Bytes.{wordsIn}
 use Rattle.image.proofs.BytesLaws.{length-words}
-use Rattle.image.proofs.Stores.{store-step, store-end}
+use Rattle.model.proofs.Stores.{store-step, store-end}
 use Rattle.image_reader.proofs.Turns.{memory-step}
 use Rattle.image_reader.specs.Layout.{memoryIn}
 use Rattle.image.specs.Format.{wordsPerField, fieldsFor, spanOf}

@@ -8,7 +8,7 @@ use lib.Seq.{sets}
 use Rattle.image.specs.Bytes.{wordBytes}
 use Rattle.image.specs.Format.{fieldBytes, wordsField, wordsPerField, fieldsFor, spanOf, memoryFields}
 use Rattle.image.proofs.MemoryLaws.{span-turn}
-use Rattle.image.proofs.Stores.{store-step, store-end}
+use Rattle.model.proofs.Stores.{store-step, store-end}
 use Rattle.image_writer.proofs.Puts.{next-field, length-word-field}
 use Rattle.image_writer.proofs.fields.put_memory.Statement.{statement}
 use Rattle.image_writer.proofs.fields.put_memory.Tie as tie

@@ -1,3 +1,4 @@
+use mathlib.Core.Path.{refl}
 use native.Mathlib.Omega.{arith}
 use borrow.Author.Needs.{needs}
 use Rattle.model.specs.Waits.{waitAt}
@@ -5,36 +6,28 @@ use Rattle.interpreter.proofs.ClockLaws.{waits-there, waits-past}
 use Rattle.interpreter.proofs.clocks.more.Statement.{statement}
 use Rattle.interpreter.proofs.clocks.more.Tie as tie
 
-mul-wide16 : tie.Need-mul-wide16
-mul-wide16 c = search needs
+mul-t6 : tie.Need-mul-t6
+mul-t6 c = search needs
 
-shared-slice-read-wide16 : tie.Need-shared-slice-read-wide16
-shared-slice-read-wide16 c = search needs
+shared-slice-read-t8 : tie.Need-shared-slice-read-t8
+shared-slice-read-t8 c = search needs
 
-wide16-requires : tie.Need-wide16-requires
-wide16-requires c κs = search needs
+cast-t9 : tie.Need-cast-t9
+cast-t9 c = omega (arith, c .shared-slice-known .given (c .before .before .args .w .position))
 
 add-t10 : tie.Need-add-t10
-add-t10 c = omega (arith, c .before .wide16 .ensures, c .before .before .shared-slice-known2 .given (c .before .before .before .before .before .args .w .position))
+add-t10 c = omega (arith, c .before .shared-slice-known .given (c .before .before .before .args .w .position))
 
 add-t11 : tie.Need-add-t11
 add-t11 c = search needs
 
 returns : tie.Need-returns
 unfolding waitAt
-returns c = (waits-there (c .before .before .before .before .before .args .waits .now) (c .before .before .before .before .before .args .w) (c .before .before .before .if1 .taken) (c .before .wide16 .ensures), omega (arith, c .before .wide16 .ensures, c .before .before .shared-slice-known2 .given (c .before .before .before .before .before .args .w .position)))
+returns c = (waits-there (c .before .before .before .args .waits .now) (c .before .before .before .args .w) (c .before .before .if1 .taken) refl, omega (arith, c .before .shared-slice-known .given (c .before .before .before .args .w .position)))
 
 returns-2 : tie.Need-returns-2
-returns-2 c = (waits-past (c .before .before .args .waits .now) (c .before .before .args .w) (c .if1 .left), omega arith)
+returns-2 c = (waits-past (c .before .args .waits .now) (c .before .args .w) (c .if1 .left), omega arith)
 
 pub more-spec : {M : Type 1} → statement M
 more-spec =
-    tie.close
-    (tie.spec
-    mul-wide16
-    shared-slice-read-wide16
-    wide16-requires
-    add-t10
-    add-t11
-    returns
-    returns-2)
+    tie.close (tie.spec mul-t6 shared-slice-read-t8 cast-t9 add-t10 add-t11 returns returns-2)

@@ -1,4 +1,3 @@
--- `ledger_text::lines::flag_digit` meets its contract.
 use Rattle.ledger_text.proofs.lines.flag_digit.Statement.{statement}
 use Rattle.ledger_text.proofs.lines.flag_digit.Tie as tie
 

@@ -1,4 +1,4 @@
--- `ledger_text::lines::put_line` meets its contract: its parts follow each other.
+-- Its parts follow each other.
 use borrow.Author.Needs.{needs}
 use Rattle.ledger_text.proofs.PartLaws.{_▸_}
 use Rattle.ledger_lines.specs.Lines.{line}

@@ -1,4 +1,3 @@
--- `ledger_text::lines::put_refused` meets its contract.
 use borrow.Author.Needs.{needs}
 use Rattle.ledger_lines.specs.Lines.{refusedText}
 use Rattle.ledger_text.proofs.PartLaws.{start, _▸_}

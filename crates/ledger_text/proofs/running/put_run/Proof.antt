@@ -1,4 +1,4 @@
--- `ledger_text::running::put_run` meets its contract: after so many turns the run so far and its lines.
+-- After so many turns the run so far and its lines.
 use Prim.Native.Nat.{_-_}
 use mathlib.Core.Path.{_∙_}
 use native.Mathlib.Omega.{arith}
@@ -24,42 +24,45 @@ loop-holds c = begins (c .before .before .before .before .before .before .args .
 element-copy-out-address : tie.Need-element-copy-out-address Inv-loop μ-loop
 element-copy-out-address c = search needs
 
-word-at-requires : tie.Need-word-at-requires Inv-loop μ-loop
-word-at-requires c κs = tt
+wide-requires : tie.Need-wide-requires Inv-loop μ-loop
+wide-requires c κs = search needs
+
+load-requires : tie.Need-load-requires Inv-loop μ-loop
+load-requires c κs = search needs
 
 run-one-requires : tie.Need-run-one-requires Inv-loop μ-loop
 run-one-requires c κs = tt
 
 put-ending-requires : tie.Need-put-ending-requires Inv-loop μ-loop
-put-ending-requires c κs = omega (arith, at-small _ _ _ _ (c .before .before .before .before .before .before .before .before .before .before .before .loop .inv), c .before .before .before .before .before .before .before .before .before .before .before .before .before .before .put-header .ensures .near)
+put-ending-requires c κs = omega (arith, at-small _ _ _ _ (c .before .before .before .before .before .before .before .before .before .before .before .before .loop .inv), c .before .before .before .before .before .before .before .before .before .before .before .before .before .before .before .put-header .ensures .near)
 
 same-length : tie.Need-same-length Inv-loop μ-loop
-same-length c = c .before .before .before .before .before .before .before .before .run-one .kept .0 ∙ c .before .before .before .before .before .before .before .before .before .before .before .before .before .before .loop .inv .words
+same-length c = c .before .before .before .before .before .before .before .before .run-one .kept .0 ∙ c .before .before .before .before .before .before .before .before .before .before .before .before .before .before .before .loop .inv .words
 
 same-length-2 : tie.Need-same-length-2 Inv-loop μ-loop
-same-length-2 c = c .before .before .put-ending .kept .0 ∙ c .before .before .before .before .before .before .before .before .before .before .before .before .before .before .loop .inv .room ∙ c .before .before .before .before .before .before .before .before .before .before .before .before .before .before .before .before .before .put-header .kept .0
+same-length-2 c = c .before .before .put-ending .kept .0 ∙ c .before .before .before .before .before .before .before .before .before .before .before .before .before .before .before .loop .inv .room ∙ c .before .before .before .before .before .before .before .before .before .before .before .before .before .before .before .before .before .before .put-header .kept .0
 
 returns : tie.Need-returns Inv-loop μ-loop
 returns c =
-    outside _ _ _ _ (c .before .before .before .before .before .before .before .before .before .before .before .before .before .before .loop .inv) (c .before .before .before .before .before .before .before .before .run-one .ensures) (omega (arith, c .before .before .before .before .before .before .before .before .before .before .before .before .before .before .loop .inv .words, c .before .before .before .before .before .before .before .before .before .before .before .before .before .before .before .before .before .before .before .before .before .pre)) (omega (arith, c .before .before .before .before .before .before .before .before .before .before .before .before .before .before .loop .inv .words, c .before .before .before .before .before .before .before .before .before .before .before .before .before .before .before .before .before .before .before .before .before .pre))
-    (c .before .before .before .before .if1 .taken) (c .before .before .before .before .before .before .before .before .before .before .before .before .before .loop-test .taken) (c .before .before .before .before .before .before .before .before .before .before .before .before .before .before .before .before .before .put-header .ensures .whole) (c .before .before .put-ending .ensures)
+    outside _ _ _ _ (c .before .before .before .before .before .before .before .before .before .before .before .before .before .before .before .loop .inv) (c .before .before .before .before .before .before .before .before .run-one .ensures) (omega (arith, c .before .before .before .before .before .before .before .before .before .before .before .before .before .before .before .loop .inv .words, c .before .before .before .before .before .before .before .before .before .before .before .before .before .before .before .before .before .before .before .before .before .before .pre)) (omega (arith, c .before .before .before .before .before .before .before .before .before .before .before .before .before .before .before .loop .inv .words, c .before .before .before .before .before .before .before .before .before .before .before .before .before .before .before .before .before .before .before .before .before .before .pre))
+    (c .before .before .before .before .if1 .taken) (c .before .before .before .before .before .before .before .before .before .before .before .before .before .before .loop-test .taken) (c .before .before .before .before .before .before .before .before .before .before .before .before .before .before .before .before .before .before .put-header .ensures .whole) (c .before .before .put-ending .ensures)
 
 add-ran : tie.Need-add-ran Inv-loop μ-loop
-add-ran c = omega (arith, c .before .before .before .before .before .before .before .before .before .before .before .loop-test .taken)
+add-ran c = omega (arith, c .before .before .before .before .before .before .before .before .before .before .before .before .loop-test .taken)
 
 add-clocks : tie.Need-add-clocks Inv-loop μ-loop
-add-clocks c = omega (arith, clocks-fit _ _ _ _ (c .before .before .before .before .before .before .before .before .before .before .before .before .before .loop .inv) (c .before .before .before .before .before .before .before .run-one .ensures) (omega (arith, c .before .before .before .before .before .before .before .before .before .before .before .before .before .loop .inv .words, c .before .before .before .before .before .before .before .before .before .before .before .before .before .before .before .before .before .before .before .before .pre)) (omega (arith, c .before .before .before .before .before .before .before .before .before .before .before .before .before .loop .inv .words, c .before .before .before .before .before .before .before .before .before .before .before .before .before .before .before .before .before .before .before .before .pre)))
+add-clocks c = omega (arith, clocks-fit _ _ _ _ (c .before .before .before .before .before .before .before .before .before .before .before .before .before .before .loop .inv) (c .before .before .before .before .before .before .before .run-one .ensures) (omega (arith, c .before .before .before .before .before .before .before .before .before .before .before .before .before .before .loop .inv .words, c .before .before .before .before .before .before .before .before .before .before .before .before .before .before .before .before .before .before .before .before .before .pre)) (omega (arith, c .before .before .before .before .before .before .before .before .before .before .before .before .before .before .loop .inv .words, c .before .before .before .before .before .before .before .before .before .before .before .before .before .before .before .before .before .before .before .before .before .pre)))
 
 put-line-requires : tie.Need-put-line-requires Inv-loop μ-loop
-put-line-requires c κs = omega (arith, at-small _ _ _ _ (c .before .before .before .before .before .before .before .before .before .before .before .before .before .before .loop .inv), c .before .before .before .before .before .before .before .before .before .before .before .before .before .before .before .before .before .put-header .ensures .near)
+put-line-requires c κs = omega (arith, at-small _ _ _ _ (c .before .before .before .before .before .before .before .before .before .before .before .before .before .before .before .loop .inv), c .before .before .before .before .before .before .before .before .before .before .before .before .before .before .before .before .before .before .put-header .ensures .near)
 
 loop-less : tie.Need-loop-less Inv-loop μ-loop
-loop-less c = omega (arith, c .before .before .before .before .before .before .before .before .before .before .before .before .before .before .before .before .loop-test .taken)
+loop-less c = omega (arith, c .before .before .before .before .before .before .before .before .before .before .before .before .before .before .before .before .before .loop-test .taken)
 
 loop-again : tie.Need-loop-again Inv-loop μ-loop
 loop-again c =
-    turn _ _ _ _ (c .before .before .before .before .before .before .before .before .before .before .before .before .before .before .before .before .before .loop .inv) (c .before .before .before .before .before .before .before .before .before .before .before .run-one .ensures) (omega (arith, c .before .before .before .before .before .before .before .before .before .before .before .before .before .before .before .before .before .loop .inv .words, c .before .before .before .before .before .before .before .before .before .before .before .before .before .before .before .before .before .before .before .before .before .before .before .before .pre)) (omega (arith, c .before .before .before .before .before .before .before .before .before .before .before .before .before .before .before .before .before .loop .inv .words, c .before .before .before .before .before .before .before .before .before .before .before .before .before .before .before .before .before .before .before .before .before .before .before .before .pre))
-    (c .before .before .before .before .before .before .before .if1 .left) (c .before .before .before .before .before .before .before .before .before .before .before .before .before .before .before .before .loop-test .taken) (c .before .before .before .before .before .before .before .before .before .before .before .run-one .kept .0) (c .before .before .put-line .kept .0) (c .before .before .before .before .before .before .before .before .before .before .before .before .before .word-at .ensures) (c .before .before .put-line .ensures)
+    turn _ _ _ _ (c .before .before .before .before .before .before .before .before .before .before .before .before .before .before .before .before .before .before .loop .inv) (c .before .before .before .before .before .before .before .before .before .before .before .run-one .ensures) (omega (arith, c .before .before .before .before .before .before .before .before .before .before .before .before .before .before .before .before .before .before .loop .inv .words, c .before .before .before .before .before .before .before .before .before .before .before .before .before .before .before .before .before .before .before .before .before .before .before .before .before .pre)) (omega (arith, c .before .before .before .before .before .before .before .before .before .before .before .before .before .before .before .before .before .before .loop .inv .words, c .before .before .before .before .before .before .before .before .before .before .before .before .before .before .before .before .before .before .before .before .before .before .before .before .before .pre))
+    (c .before .before .before .before .before .before .before .if1 .left) (c .before .before .before .before .before .before .before .before .before .before .before .before .before .before .before .before .before .loop-test .taken) (c .before .before .before .before .before .before .before .before .before .before .before .run-one .kept .0) (c .before .before .put-line .kept .0) (rw (c .before .before .before .before .before .before .before .before .before .before .before .before .before .before .wide .ensures) at (c .before .before .before .before .before .before .before .before .before .before .before .before .before .load .ensures)) (c .before .before .put-line .ensures)
 
 put-ending-requires-2 : tie.Need-put-ending-requires-2 Inv-loop μ-loop
 put-ending-requires-2 c κs = omega (arith, at-small _ _ _ _ (c .before .before .loop .inv), c .before .before .before .before .before .put-header .ensures .near)
@@ -82,7 +85,8 @@ put-run-spec =
     put-header-requires
     loop-holds
     element-copy-out-address
-    word-at-requires
+    wide-requires
+    load-requires
     run-one-requires
     put-ending-requires
     same-length

@@ -1,26 +1,24 @@
-use Rattle.model.specs.Gates.{isAccess}
-use Rattle.refusals.proofs.Rows.{no-access}
+use mathlib.Core.Path.{refl, ap, _∙_}
+use borrow.Author.Needs.{needs}
+use Rattle.step_table.specs.Table.{accesses}
+use Rattle.step_table.proofs.TableLaws.{step-there, access-mark, access-past}
 use Rattle.refusals.proofs.gate_state.is_access.Statement.{statement}
 use Rattle.refusals.proofs.gate_state.is_access.Tie as tie
 
+steps-requires : tie.Need-steps-requires
+steps-requires c κs = search needs
+
+mul-step : tie.Need-mul-step
+mul-step c = search needs
+
+array-copy-out-step : tie.Need-array-copy-out-step
+array-copy-out-step c = search needs
+
 returns : tie.Need-returns
-unfolding isAccess
-returns c = rw (c .match .keys1)
+returns c = ap accesses (step-there (c .before .before .steps .ensures) refl (c .before .before .before .if1 .taken) _) ∙ access-mark _
 
 returns-2 : tie.Need-returns-2
-unfolding isAccess
-returns-2 c = rw (c .match .keys2)
-
-returns-3 : tie.Need-returns-3
-unfolding isAccess
-returns-3 c = rw (c .match .keys3)
-
-returns-4 : tie.Need-returns-4
-unfolding isAccess
-returns-4 c = rw (c .match .keys4)
-
-returns-5 : tie.Need-returns-5
-returns-5 c = no-access (c .before .args .row) (c .match .rest .0 .0 .0 .1) (c .match .rest .0 .0 .1) (c .match .rest .0 .1) (c .match .rest .1)
+returns-2 c = access-past _ (c .if1 .left)
 
 pub is-access-spec : {M : Type 1} → statement M
-is-access-spec = tie.close (tie.spec returns returns-2 returns-3 returns-4 returns-5)
+is-access-spec = tie.close (tie.spec steps-requires mul-step array-copy-out-step returns returns-2)

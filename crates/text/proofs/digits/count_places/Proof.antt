@@ -1,4 +1,4 @@
--- `text::digits::count_places` meets its contract: so many places counted, and the places of what is left, are those of n.
+-- So many places counted, and the places of what is left, are those of n.
 use Prim.Native.Nat.{ℕ}
 use Prim.Native.Nat.{_+_, _-_, _≤_}
 use mathlib.Core.Path.{_∙_}

@@ -1,4 +1,3 @@
--- `text::digits::digit_of` meets its contract.
 use borrow.Author.Tests.{lt-ltb, le-ltb}
 use borrow.Author.Needs.{needs}
 use Rattle.text.proofs.digits.digit_of.Statement.{statement}

@@ -1,4 +1,4 @@
--- `text::digits::put_byte` meets its contract: a store past the end changes nothing.
+-- A store past the end changes nothing.
 use mathlib.Core.Path.{sym}
 use lib.Seq.{set-out}
 use borrow.Author.Needs.{needs}

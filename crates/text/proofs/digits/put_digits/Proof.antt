@@ -1,4 +1,4 @@
--- `text::digits::put_digits` meets its contract: the digits still to be put in give the whole text.
+-- The digits still to be put in give the whole text.
 use Prim.Native.Nat.{_≤_}
 use mathlib.Core.Path.{refl, sym, _∙_}
 use mathlib.Core.Path.{_≡_}

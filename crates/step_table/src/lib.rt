@@ -1,6 +1,6 @@
 // The step table: next rows and control marks, by row.
 ghost use mathlib.Core.Path.{_≡_};
-ghost use Rattle.gate_rows.specs.Table.{stepTable};
+ghost use Rattle.step_table.specs.Table.{stepTable};
 
 // A row of the table: the next row where an operand is in memory, where it is direct and where nothing is stored; marks.
 // Marks: 1, the row is an access; 2, an instruction finishes.

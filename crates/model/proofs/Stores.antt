@@ -6,10 +6,10 @@ use native.Mathlib.Nat.{add-zero, zero-add}
 use native.Mathlib.Omega.{arith}
 use lib.ListN.{length, set, drop}
 use lib.Seq.{sets, sets-eq}
 use Rattle.model.specs.Journal.{overlay}
 
 -- values stored one after the other are stored together
-sets-append : (list : List ℕ) (at : ℕ) (a b : List ℕ) → sets (sets list at a) (at + length a) b ≡ sets list at (a ++ b)
+pub sets-append : (list : List ℕ) (at : ℕ) (a b : List ℕ) → sets (sets list at a) (at + length a) b ≡ sets list at (a ++ b)
 sets-append list at [] b = ap (λ (n : ℕ). sets list n b) (add-zero at)
 sets-append list at (x ∷ a) b =
     let e : at + suc (length a) ≡ suc at + length a = omega arith in

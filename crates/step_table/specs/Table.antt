@@ -2,6 +2,7 @@
 use Prim.Native.Nat.{ℕ, zero, suc, _+_, _*_}
 use mathlib.Core.Bool.{Bool, true, false}
 use mathlib.Core.List.{List, [], _∷_}
+use lib.Dec.{eqb}
 use lib.ListN.{getD}
 use Rattle.arithmetic.specs.Words.{asNumber}
 use Rattle.model.specs.declared.Flags.{Flags}
@@ -9,7 +10,7 @@ use Rattle.model.specs.Words.{field, bit}
 use Rattle.model.specs.Operands.{operandA, operandB}
 use Rattle.model.specs.Alu.{isMove, operation, stores}
 use Rattle.model.specs.Gates.{withRow, withInstruction, atRest, Gate, gate, rows, isAccess}
-use Rattle.gate_rows.specs.declared.table.Step.{Step}
+use Rattle.step_table.specs.declared.Step.{Step}
 
 -- a machine in row r, with an instruction and the carry; all else is 0
 abbrev pub probe : ℕ → ℕ → Bool → Gate
@@ -35,3 +36,22 @@ stepsFrom r (suc n) = stepOf r ∷ stepsFrom (suc r) n
 -- the twelve rows
 unfoldable pub stepTable : List Step
 stepTable = stepsFrom 0 12
+
+-- ---- the parts of a step
+
+-- the next row where an operand is in memory, where it is direct, and where nothing is stored
+abbrev pub memoryRow : Step → ℕ
+memoryRow step = step .0
+
+abbrev pub directRow : Step → ℕ
+directRow step = step .1
+
+abbrev pub skippedRow : Step → ℕ
+skippedRow step = step .2
+
+-- the control marks
+abbrev pub accesses : Step → Bool
+accesses step = eqb (step .3) 1
+
+abbrev pub finishes : Step → Bool
+finishes step = eqb (step .3) 2

@@ -1,7 +1,7 @@
 use mathlib.Core.Path.{refl}
-use Rattle.gate_rows.specs.Table.{stepOf, stepTable}
-use Rattle.gate_rows.proofs.table.steps.Statement.{statement}
-use Rattle.gate_rows.proofs.table.steps.Tie as tie
+use Rattle.step_table.specs.Table.{stepOf, stepTable}
+use Rattle.step_table.proofs.steps.Statement.{statement}
+use Rattle.step_table.proofs.steps.Tie as tie
 
 -- the rule of the table, once over its twelve rows: antt computes them
 returns : tie.Need-returns
