@@ -8,6 +8,7 @@ const SOURCES: [&str; 4] = ["interpreter", "gate_machine", "gate_unit", "image"]
 
 fn main() {
     println!("cargo:rerun-if-changed=c");
+    println!("cargo:rerun-if-changed=../include");
     if env::var_os("CARGO_FEATURE_LIBRARY").is_none() {
         return;
     }
@@ -15,8 +16,9 @@ fn main() {
     let objects = SOURCES.map(|name| out.join(format!("{name}.o")));
     for (name, object) in SOURCES.iter().zip(&objects) {
         let mut cc = Command::new("cc");
-        cc.args(["-O2", "-std=c11", "-Wall", "-Wextra", "-fPIC", "-c"]);
-        run(cc.arg(format!("c/{name}.c")).arg("-o").arg(object));
+        cc.args(["-O2", "-std=c11", "-Wall", "-Wextra", "-fPIC"]);
+        cc.args(["-I../include", "-c", &format!("c/{name}.c"), "-o"]);
+        run(cc.arg(object));
     }
     let archive = out.join("libbaseline.a");
     run(Command::new("ar").arg("rcs").arg(&archive).args(&objects));

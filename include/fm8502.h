@@ -9,7 +9,7 @@
  *
  * Every call ends, returns a code, and touches nothing but the arrays it is lent.
  * It looks at its arguments in this order: the machine's, state's and result's
- * form (FM8502_MISFIT), then the reasons to refuse, lowest number first except
+ * lengths (FM8502_MISFIT), then the reasons to refuse, lowest number first except
  * that an image's fields are taken one by one. After a refusal or a misfit
  * everything lent is as it was.
  *
@@ -59,7 +59,7 @@ enum {
     FM8502_RESULT = 17,
     FM8502_POSITION = 18, /* in the wait list */
     FM8502_BEGUN = 19,    /* whether an access has begun: as a flag */
-    FM8502_LEFT = 20      /* its clocks left, the completing one included; at most 65,535 */
+    FM8502_LEFT = 20      /* its clocks left, the completing one included; above 65,535: FM8502_BAD_GATE_STATE */
 };
 
 /* ---- Codes */
@@ -67,23 +67,23 @@ enum {
 enum {
     FM8502_DONE = 0,     /* carried out; a run: "finished" */
     /* Refused: the paper's numbers, which stand in this order. */
-    FM8502_NO_MEMORY = 1,
-    FM8502_MEMORY_TOO_LONG = 2,
-    FM8502_WAIT_LIST_TOO_LONG = 3,
-    FM8502_BAD_STATE = 4,
-    FM8502_FILE_TOO_LONG = 5,
-    FM8502_JOURNAL_TOO_SHORT = 6,
-    FM8502_OUTPUT_TOO_SHORT = 7,
-    FM8502_IMAGE_CUT = 8,
-    FM8502_BAD_TAG = 9,
-    FM8502_BAD_LENGTH = 10,
-    FM8502_BAD_VERSION = 11,
+    FM8502_NO_WORDS = 1,
+    FM8502_TOO_MANY_WORDS = 2,
+    FM8502_LONG_WAIT_LIST = 3,
+    FM8502_BAD_GATE_STATE = 4,
+    FM8502_TOO_MANY_INSTRUCTIONS = 5,
+    FM8502_SHORT_JOURNAL = 6,
+    FM8502_SHORT_OUTPUT = 7,
+    FM8502_CUT_IMAGE = 8,
+    FM8502_WRONG_TAG = 9,
+    FM8502_WRONG_LENGTH = 10,
+    FM8502_WRONG_VERSION = 11,
     FM8502_BAD_FLAG = 12,
     FM8502_BAD_WORD_COUNT = 13,
-    FM8502_MEMORY_TOO_SHORT = 14,
+    FM8502_SHORT_MEMORY = 14,
     FM8502_TRAILING_BYTES = 15,
     FM8502_STOPPED = 100, /* carried out: "outside", or "undone" for a file run */
-    FM8502_MISFIT = 200   /* machine, state or result of another length than named, or clocks left above 65,535 */
+    FM8502_MISFIT = 200   /* machine, state or result of another length than named */
 };
 
 /* ---- Calls

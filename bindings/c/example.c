@@ -118,7 +118,7 @@ static void roll_back(Card *card) {
 
     uint32_t code = fm8502_file_run(card->memory, card->words, journal, 9, card->machine,
                                     FM8502_MACHINE_WORDS, INSTRUCTIONS, result, 2);
-    expect("file run", code, FM8502_JOURNAL_TOO_SHORT);
+    expect("file run", code, FM8502_SHORT_JOURNAL);
     printf("short journal: refused %u\n", (unsigned)code);
 }
 

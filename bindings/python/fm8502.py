@@ -12,6 +12,7 @@ from ctypes import c_size_t, c_uint8, c_uint16, c_uint32, c_uint64
 from dataclasses import dataclass, field
 from pathlib import Path
 
+_DONE = 0
 _STOPPED = 100
 _MISFIT = 200
 
@@ -114,8 +115,8 @@ def _call(name, *arguments):
     call.restype = c_uint32
     code = call(*arguments)
     if code == _MISFIT:
-        raise ValueError("the clocks left are no number of 16 bits")
-    if code not in (0, _STOPPED):
+        raise ValueError("a machine has eight registers and four flags")
+    if code not in (_DONE, _STOPPED):
         raise Refused(code)
     return code
 
@@ -140,14 +141,14 @@ def run(memory, waits, machine, count):
     """Runs up to count instructions with the wait list."""
     lent = (*_lent(c_uint32, memory), *_shown(c_uint16, waits))
     code, result = _changing("run", lent, machine, [_count(count, 32)], 2)
-    return Run(finished=code == 0, ran=result[0], clocks=result[1])
+    return Run(finished=code == _DONE, ran=result[0], clocks=result[1])
 
 
 def file_run(memory, journal, machine, count):
     """Runs up to count instructions; a run that comes outside is taken back whole."""
     lent = (*_lent(c_uint32, memory), *_lent(c_uint32, journal))
     code, result = _changing("file_run", lent, machine, [_count(count, 32)], 2)
-    return Run(finished=code == 0, ran=result[0], pairs=result[1])
+    return Run(finished=code == _DONE, ran=result[0], pairs=result[1])
 
 
 def gate_run(memory, waits, state, clocks):

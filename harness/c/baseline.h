@@ -3,11 +3,8 @@
 #ifndef BASELINE_H
 #define BASELINE_H
 
+#include "fm8502.h"
 #include <stdbool.h>
-#include <stddef.h>
-#include <stdint.h>
-
-enum { FINISHED = 0, STOPPED = 100 };
 
 // Called once in each loop, where a call would cost more than the work.
 #define INLINE static inline __attribute__((always_inline))

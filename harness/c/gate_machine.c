@@ -127,5 +127,5 @@ uint32_t baseline_gate_run(uint32_t *memory, size_t memory_words, const uint16_t
         finished += tick(&s, memory, memory_words, waits, waits_entries);
     give(&s, state);
     result[0] = finished;
-    return FINISHED;
+    return FM8502_DONE;
 }

@@ -33,7 +33,7 @@ uint32_t baseline_image_write(const uint32_t *memory, size_t memory_words,
     }
     at = header(at, 0xFF, 0);
     result[0] = (uint64_t)(at - out);
-    return FINISHED;
+    return FM8502_DONE;
 }
 
 // Ends the program if a header is not the one due: only good images are lent.
@@ -60,5 +60,5 @@ uint32_t baseline_image_read(const uint8_t *bytes, size_t length, uint32_t *memo
     }
     if (due_header(at, 0xFF, 0) != bytes + length) abort();
     result[0] = words;
-    return FINISHED;
+    return FM8502_DONE;
 }

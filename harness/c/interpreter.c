@@ -177,7 +177,7 @@ INLINE uint32_t plain_run(Engine e, uint32_t *machine, uint32_t count, uint64_t 
     give(&e, &g, machine);
     result[0] = ran;
     result[1] = e.clocks;
-    return ran == count ? FINISHED : STOPPED;
+    return ran == count ? FM8502_DONE : FM8502_STOPPED;
 }
 
 uint32_t baseline_run(uint32_t *memory, size_t memory_words, const uint16_t *waits,
@@ -198,8 +198,8 @@ uint32_t baseline_file_run(uint32_t *memory, size_t memory_words, uint32_t *jour
     result[1] = e.filled / 2;
     if (ran == count) {
         give(&e, &g, machine);
-        return FINISHED;
+        return FM8502_DONE;
     }
     for (size_t i = e.filled; i > 0; i -= 2) memory[journal[i - 2]] = journal[i - 1];
-    return STOPPED;
+    return FM8502_STOPPED;
 }

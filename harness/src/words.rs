@@ -1,4 +1,5 @@
-//! The machine and the gate state as the words that the library takes.
+//! The machine and the gate state as the words that the library takes; the flags
+//! as one number.
 
 use reference::{Flags, GateState, Machine};
 
@@ -54,4 +55,10 @@ pub fn state_of(words: &[u32]) -> GateState {
         begun: words[19] != 0,
         left: words[20] as u16,
     }
+}
+
+/// C, V, N, Z as the bits of a number, C the highest.
+pub fn flag_number(flags: Flags) -> u32 {
+    let bits = flags.to_array().map(u32::from);
+    bits.iter().fold(0, |number, bit| 2 * number + bit)
 }

@@ -32,14 +32,11 @@ pub struct FileRun {
     pub pairs: u32,
 }
 
-const FINISHED: u32 = 0;
-const STOPPED: u32 = 100;
-
 /// Whether a call that was carried out ended without a missing word.
 fn carried_out(code: u32) -> Result<bool, Refused> {
     match code {
-        FINISHED => Ok(true),
-        STOPPED => Ok(false),
+        library::DONE => Ok(true),
+        library::STOPPED => Ok(false),
         // The wrappers lend slices of the right length, so this is 1 to 15.
         number => Err(Refused(number)),
     }

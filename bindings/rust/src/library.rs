@@ -3,9 +3,15 @@
 //! A slice passes as its pointer and its length. Nothing checks these
 //! declarations against the archive, so they stand in one place.
 //!
-//! Codes: 0 carried out; 1 to 15 the paper's refusal; 100 stopped at a missing
-//! word; 200 a machine, state or result of the wrong form. After 1 to 15 and 200
+//! A code from 1 to 15 is the paper's refusal. After it and after [`MISFIT`]
 //! everything lent is as it was.
+
+/// Carried out.
+pub const DONE: u32 = 0;
+/// Carried out, and stopped at a missing word.
+pub const STOPPED: u32 = 100;
+/// A machine, state or result of another length.
+pub const MISFIT: u32 = 200;
 
 mod raw {
     extern "C" {

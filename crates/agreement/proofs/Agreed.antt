@@ -4,39 +4,28 @@ use mathlib.Core.Path.{_≡_, refl, sym, ap, _∙_}
 use mathlib.Core.List.{List}
 use native.Mathlib.Omega.{arith}
 use Rattle.model.specs.declared.GateState.{GateState}
-use Rattle.model.specs.declared.Machine.{Machine}
 use Rattle.model.specs.declared.Ending.{Ending}
 use Rattle.model.specs.declared.Ending.the-variants.{Finished, Outside}
-use Rattle.model.proofs.Verdicts.{numbered}
 use Rattle.model.specs.declared.Verdict.{Verdict}
-use Rattle.model.specs.declared.Verdict.the-variants.{Accepted, Refused}
-use Rattle.model.specs.Refusals.{verdictNumber, _then_, memoryFits, waitsFit, runVerdict, gateVerdict}
+use Rattle.model.specs.declared.Verdict.the-variants.{Accepted}
+use Rattle.model.specs.Refusals.{_then_, memoryFits, waitsFit, runVerdict, gateVerdict}
 use Rattle.model.specs.Interpreter.{Run, begin, interpret}
 use Rattle.model.specs.Gates.{Gate, gate, gateRun}
 use Rattle.model.specs.Agreement.{machineOf, gateFrom, interpreterFrom}
+use Rattle.model.proofs.Verdicts.{then-accepted, accepted}
 use Rattle.model.proofs.Agreed.{agreement}
-use Rattle.interpreter.specs.declared.RunAnswer.{RunAnswer}
-use Rattle.interpreter.specs.declared.RunResult.{RunResult}
-use Rattle.interpreter.specs.Calls.{runAnswer, runResult, runMemory}
-use Rattle.interpreter.specs.Calls as Interpreter
 use Rattle.model.proofs.Valid.{resting, valid-verdict}
-use Rattle.agreement.proofs.Follows.{series-as-one}
+use Rattle.interpreter.specs.declared.RunAnswer.{RunAnswer}
+use Rattle.interpreter.specs.Calls.{runAnswer, runResult}
+use Rattle.interpreter.proofs.CallLaws.{returned, left-in}
 use Rattle.agreement.specs.TwoRuns.{Fresh, InStep, TwoRuns, SameVerdict}
-
--- a verdict that all else passed
-last : (v : Verdict) → (v then Accepted) ≡ v
-last Accepted = refl
-last (Refused why) = refl
+use Rattle.agreement.proofs.Follows.{series-as-one}
 
 pub same-verdict : SameVerdict
 unfolding gateVerdict runVerdict
 same-verdict memory waits start h =
     let v = valid-verdict start (resting start (rw (h .row) (omega arith)) (rw (h .position) (omega arith)) (h .begun) (h .left)) in
-    ap (λ (w : Verdict). memoryFits memory then waitsFit waits then w) v ∙ ap (λ (w : Verdict). memoryFits memory then w) (last (waitsFit waits))
-
-pub accepted : (v : Verdict) → verdictNumber v ≡ 0 → v ≡ Accepted
-accepted Accepted e = refl
-accepted (Refused why) e = absurd (omega (arith, numbered why .0))
+    ap (λ (w : Verdict). memoryFits memory then waitsFit waits then w) v ∙ ap (λ (w : Verdict). memoryFits memory then w) (then-accepted (waitsFit waits))
 
 finished-as : (e : Ending) → runAnswer e ≡ RunAnswer.Finished → e ≡ Finished
 finished-as Finished q = refl
@@ -45,17 +34,6 @@ finished-as Outside q = absurd (let z : _≡_ {A = ℕ} 0 1 = cc in omega arith)
 outside-as : (e : Ending) → runAnswer e ≡ RunAnswer.Outside → e ≡ Outside
 outside-as Finished q = absurd (let z : _≡_ {A = ℕ} 0 1 = cc in omega arith)
 outside-as Outside q = refl
-
--- what a run that is carried out returns, and leaves in the memory
-module _ (memory waits : List ℕ) (start : Machine) (n : ℕ) {r : RunResult} {words : List ℕ} (v : runVerdict memory waits ≡ Accepted) (c : Interpreter.Runs memory waits start n words r) where
-  abbrev ran : Run
-  ran = interpret waits n (begin start memory 0)
-
-  pub returned : r ≡ runResult Accepted start ran
-  returned = c .result ∙ ap (λ (w : Verdict). runResult w start ran) v
-
-  pub left-in : words ≡ ran .memory
-  left-in = c .words ∙ ap (λ (w : Verdict). runMemory w memory ran) v
 
 -- the claim for a run i of the model
 claim : (memory waits : List ℕ) (start : GateState) (n k : ℕ) → Fresh start → (i : Run) → i ≡ interpret waits n (interpreterFrom start memory)

@@ -11,11 +11,13 @@ use Rattle.model.specs.Gates.{Gate, gateRun}
 use Rattle.model.specs.Agreement.{interpreterMark, gateMark, machineOf, gateFrom, interpreterFrom}
 use Rattle.model.specs.Bench.{Case, cases, startOf, hasAll, passes, allPass}
 use Rattle.model.proofs.Starred.{starred}
+use Rattle.model.proofs.Verdicts.{accepted}
 use Rattle.interpreter.specs.declared.RunResult.{RunResult}
 use Rattle.interpreter.specs.Calls as Interpreter
-use Rattle.agreement.proofs.Follows.{carried-out}
+use Rattle.interpreter.proofs.CallLaws.{returned, left-in}
+use Rattle.gate_machine.proofs.Settles.{carried-out}
 use Rattle.agreement.specs.Starred.{Holds, AllHold, StarredCases}
-use Rattle.agreement.proofs.Agreed.{accepted, same-verdict, returned, left-in}
+use Rattle.agreement.proofs.Agreed.{same-verdict}
 
 left : (a b : Bool) → T (a && b) → T a
 left true b t = tt

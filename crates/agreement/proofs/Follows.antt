@@ -4,27 +4,14 @@ use mathlib.Core.Path.{_≡_, sym, ap, _∙_}
 use mathlib.Core.List.{List}
 use lib.ListN.{length}
 use Rattle.model.specs.declared.GateState.{GateState}
-use Rattle.model.specs.declared.Verdict.{Verdict}
 use Rattle.model.specs.declared.Verdict.the-variants.{Accepted}
 use Rattle.model.specs.Refusals.{gateVerdict}
 use Rattle.model.specs.Gates.{Gate, gate, gateRun}
 use Rattle.model.specs.Agreement.{gateFrom}
 use Rattle.model.proofs.Counts.{continuation}
-use Rattle.gate_machine.specs.declared.GateResult.{GateResult}
-use Rattle.gate_machine.specs.Outcome.{Settled, settled, ranAs, gateOutcome, Runs}
-use Rattle.agreement.specs.Series.{one, more, SeriesAsOne}
 use Rattle.model.proofs.Valid.{Fine, valid-verdict, passed, comes-fine}
-
--- what a call that is carried out returns and leaves
-pub carried-out : (memory waits : List ℕ) (start : GateState) (k : ℕ) {r : GateResult} {after : List ℕ} → gateVerdict memory waits start ≡ Accepted
-    → Runs memory waits start k r after → gate (r .state) after (r .finished) ≡ gateRun waits k (gateFrom start memory)
-unfolding gateOutcome
-carried-out memory waits start k {r} {after} e h =
-    let g = gateRun waits k (gateFrom start memory) in
-    let o : gateOutcome memory waits start k ≡ ranAs g = ap (λ (v : Verdict). settled v g start memory) e in
-    let p : r ≡ ranAs g .result = h .result ∙ ap (λ (x : Settled). x .result) o in
-    let q : after ≡ g .memory = h .words ∙ ap (λ (x : Settled). x .memory) o in
-    λ i. gate (p i .state) (q i) (p i .finished)
+use Rattle.gate_machine.proofs.Settles.{carried-out}
+use Rattle.agreement.specs.Series.{one, more, SeriesAsOne}
 
 -- the verdict looks at the memory's length and at the state's validity
 module _ (memory waits : List ℕ) (start : GateState) (e : gateVerdict memory waits start ≡ Accepted) where
@@ -35,7 +22,7 @@ module _ (memory waits : List ℕ) (start : GateState) (e : gateVerdict memory w
       rw (f .length, p .words, p .list) (valid-verdict (g .state) (f .valid))
 
   -- the state and the memory that a run leaves are taken by the next
-  pub next-accepted : (i : ℕ) {s : GateState} {m : List ℕ} {f : ℕ} → gate s m f ≡ gateRun waits i (gateFrom start memory) → gateVerdict m waits s ≡ Accepted
+  next-accepted : (i : ℕ) {s : GateState} {m : List ℕ} {f : ℕ} → gate s m f ≡ gateRun waits i (gateFrom start memory) → gateVerdict m waits s ≡ Accepted
   next-accepted i q =
       ap (λ (g : Gate). gateVerdict (g .memory) waits (g .state)) q
       ∙ still-accepted (gateRun waits i (gateFrom start memory)) (comes-fine memory waits start e i)

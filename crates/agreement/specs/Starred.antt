@@ -7,13 +7,13 @@ use Rattle.model.specs.Bench.{Case, cases, startOf, hasAll}
 use Rattle.interpreter.specs.declared.RunResult.{RunResult}
 use Rattle.interpreter.specs.Calls as Interpreter
 use Rattle.gate_machine.specs.declared.GateResult.{GateResult}
-use Rattle.gate_machine.specs.Outcome as Gates
+use Rattle.gate_machine.specs.Calls as Gates
 use Rattle.agreement.specs.TwoRuns.{runMark, clockMark}
 
 -- a run of one instruction, and a gate run of as many clocks as it returns, leave what the case expects
 pub record Holds (c : Case) (r : RunResult) (words : List ℕ) : Type 0 where
   pub run : T (hasAll (runMark r words) (r .clocks) (c .expected))
-  pub clocks : (g : GateResult) (words′ : List ℕ) → Gates.Runs (c .memory) (c .waits) (startOf c) (r .clocks) g words′
+  pub clocks : (g : GateResult) (words′ : List ℕ) → Gates.Runs (c .memory) (c .waits) (startOf c) (r .clocks) words′ g
       → T (hasAll (clockMark (g .finished) (g .state) words′) (r .clocks) (c .expected))
 
 -- whatever the calls return for each case

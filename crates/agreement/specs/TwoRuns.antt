@@ -1,13 +1,14 @@
--- Demand 3 for the public calls `interpreter::run` and `gate_machine::run`, in the terms of what they return by their contracts. Document 01, "Clocks".
+-- Demand 3 for the public calls `interpreter::run` and `gate_machine::run`, in the terms of what they return by their contracts. Document
+-- 01, "Clocks".
 use Prim.Native.Nat.{ℕ, _≤_}
 use mathlib.Core.Path.{_≡_}
 use mathlib.Core.Logic.{_↔_}
-use mathlib.Core.Bool.{true, false}
+use mathlib.Core.Bool.{false}
 use mathlib.Core.List.{List}
-use lib.Dec.{eqb}
 use Rattle.model.specs.declared.GateState.{GateState}
 use Rattle.model.specs.Refusals.{runVerdict, gateVerdict}
-use Rattle.model.specs.Agreement.{Mark, machineOf}
+use Rattle.model.specs.Gates.{gate}
+use Rattle.model.specs.Agreement.{Mark, markOf, gateMark, machineOf}
 use Rattle.interpreter.specs.declared.RunAnswer.{RunAnswer}
 use Rattle.interpreter.specs.declared.RunResult.{RunResult}
 use Rattle.interpreter.specs.Calls.{runNumber}
@@ -21,27 +22,13 @@ pub record Fresh (s : GateState) : Type 0 where
   pub begun : s .begun ≡ false
   pub left : s .left ≡ 0
 
--- the interpreter's mark: what its run returned, and its memory after it; it counts as between instructions
+-- the interpreter's mark: what its run returned, and its memory after it
 abbrev pub runMark : RunResult → List ℕ → Mark
-runMark r memory =
-    record {
-      finished = r .ran;
-      between = true;
-      regs = r .machine .regs;
-      flags = r .machine .flags;
-      memory = memory;
-    }
+runMark r memory = markOf (r .ran) (r .machine) memory
 
 -- the gate machine's mark: the instructions that its runs finished, the state that the last one returned, and its memory after it
 abbrev pub clockMark : ℕ → GateState → List ℕ → Mark
-clockMark finished s memory =
-    record {
-      finished = finished;
-      between = eqb (s .row) 0;
-      regs = s .regs;
-      flags = s .flags;
-      memory = memory;
-    }
+clockMark finished s memory = gateMark (gate s memory finished)
 
 -- The run of n instructions returned r and left `words`; k clocks finished f instructions, gave the state s and left `words′`.
 -- The marks are equal exactly when k is the clock total that was returned; a run that finished ran all n; after "outside" no more finish than ran.

@@ -1,4 +1,5 @@
--- Integers as differences of two naturals: `Is z a b` says that z is a - b. Sums, differences and the tests of order go over to naturals, where omega reads them.
+-- Integers as differences of two naturals: `Is z a b` says that z is a - b. Sums, differences and the tests of order go over to naturals,
+-- where omega reads them.
 use Prim.Native.Nat.{ℕ, zero, suc, _+_, _-_, _≤_, _<_, _^_}
 use mathlib.Core.Path.{_≡_, refl, sym, ap₂, _∙_}
 use mathlib.Core.Bool.{Bool, true, false, cond, _||_}
@@ -15,7 +16,7 @@ Diff (negsuc n) a b = b ≡ suc n + a
 
 -- the same as a record, so that the three can be inferred
 pub record Is (z : ℤ) (a b : ℕ) : Type 0 where
-  pub diff : Diff z a b
+  diff : Diff z a b
 
 -- two tests with the same meaning
 pub same-leb : (a b c d : ℕ) → (a ≤ b → c ≤ d) → (b < a → d < c) → leb a b ≡ leb c d

@@ -1,15 +1,16 @@
--- One law for sums and one for differences, at every width: a word r and a bit d that make the equation of values true are the result and the carry, and the overflow
+-- One law for sums and one for differences, at every width: a word r and a bit d that make the equation of values true are the result and
+-- the carry, and the overflow
 -- is read off the three top bits.
-use Prim.Native.Nat.{ℕ, suc, _+_, _-_, _*_, _%_, _≤_, _<_, _^_}
+use Prim.Native.Nat.{ℕ, zero, suc, _+_, _-_, _*_, _%_, _≤_, _<_, _^_}
 use mathlib.Core.Path.{_≡_, refl, sym, ap, ap₂, _∙_}
-use mathlib.Core.Bool.{Bool, true, false, _&&_, _||_}
+use mathlib.Core.Bool.{Bool, true, false, _||_}
 use native.Mathlib.Omega.{arith}
 use native.Mathlib.Nat.{pow-suc, mod-eq-of-lt, add-mul-mod-self-right}
-use lib.Dec.{ltb, leb}
+use lib.Dec.{ltb, leb, eqb}
 use lib.IntN.{ℤ}
 use borrow.Author.Tests.{lt-ltb, le-ltb, le-leb, lt-leb, leb-true, leb-false}
 use Rattle.arithmetic.specs.declared.AluOut.{AluOut}
-use Rattle.arithmetic.specs.Words.{asNumber, topOf, leaves, _⊕_}
+use Rattle.arithmetic.specs.Words.{asNumber, topOf, overflowOf, leaves}
 use Rattle.arithmetic.specs.Alu.{sumOf, differenceOf}
 use Rattle.arithmetic.proofs.Integers.{Is, weight, is-move, is-add, is-minus, is-pos, is-signed, is-leaves}
 
@@ -20,6 +21,16 @@ out-eq p q s = λ i. record { result = p i; carry = q i; overflow = s i }
 pub bit-le : (c : Bool) → asNumber c ≤ 1
 bit-le true = omega arith
 bit-le false = omega arith
+
+-- a bit as a number, and back
+pub digit-bit : (b : Bool) {x : ℕ} → x ≡ asNumber b → eqb x 1 ≡ b
+digit-bit true e = rw e
+digit-bit false e = rw e
+
+pub bit-digit : (x : ℕ) → x ≤ 1 → asNumber (eqb x 1) ≡ x
+bit-digit zero h = refl
+bit-digit (suc zero) h = refl
+bit-digit (suc (suc x)) h = absurd (omega arith)
 
 -- what a top bit says
 abbrev Top : Bool → ℕ → ℕ → Type 0
@@ -55,7 +66,7 @@ off-leaves k r v {z} {a} {b} i hr o = is-leaves k i ∙ go v (signed (topOf k r)
 module _ (h m x y r : ℕ) (c : Bool) (dbl : m ≡ h * 2) (hx : x < m) (hy : y < m) (hr : r < m) (hc : asNumber c ≤ 1) where
   -- a sum, by the top bits and the carry out
   sum-off : (tx ty tr d : Bool) → Top tx h x → Top ty h y → Top tr h r → r + asNumber d * m ≡ x + y + asNumber c
-      → Off (x + y + asNumber c) (weight tx m + weight ty m) r (weight tr m) m ((tx ⊕ tr) && (ty ⊕ tr))
+      → Off (x + y + asNumber c) (weight tx m + weight ty m) r (weight tr m) m (overflowOf tx ty tr)
   sum-off true true true true p q s e = exact (omega arith)
   sum-off true true true false p q s e = absurd (omega arith)
   sum-off true true false true p q s e = lower (omega arith)
@@ -98,7 +109,7 @@ turned-off x y r c wx wy wr m v (higher e) = lower (omega arith)
 module _ (k x y r : ℕ) (c d : Bool) (hx : x < 2 ^ suc k) (hy : y < 2 ^ suc k) (hr : r < 2 ^ suc k) where
   -- the law of sums
   pub sum-is : r + asNumber d * 2 ^ suc k ≡ x + y + asNumber c
-      → record { result = r; carry = d; overflow = (topOf k x ⊕ topOf k r) && (topOf k y ⊕ topOf k r) } ≡ sumOf k x y c
+      → record { result = r; carry = d; overflow = overflowOf (topOf k x) (topOf k y) (topOf k r) } ≡ sumOf k x y c
   unfolding sumOf
   sum-is e =
       sym
@@ -111,7 +122,7 @@ module _ (k x y r : ℕ) (c d : Bool) (hx : x < 2 ^ suc k) (hy : y < 2 ^ suc k) 
 
   -- the law of differences
   pub difference-is : r + (y + asNumber c) ≡ x + asNumber d * 2 ^ suc k
-      → record { result = r; carry = d; overflow = (topOf k r ⊕ topOf k x) && (topOf k y ⊕ topOf k x) } ≡ differenceOf k x y c
+      → record { result = r; carry = d; overflow = overflowOf (topOf k r) (topOf k y) (topOf k x) } ≡ differenceOf k x y c
   unfolding differenceOf
   difference-is e =
       sym

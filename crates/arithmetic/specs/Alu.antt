@@ -1,4 +1,5 @@
--- What the arithmetic unit answers, by operation, at every width of k + 1 bits; the machine's is `aluOf`, at 32 bits. Document 01, "Machine and instruction word", move bit 0.
+-- What the arithmetic unit answers, by operation, at every width of k + 1 bits; the machine's is `aluOf`, at 32 bits. Document 01, "Machine
+-- and instruction word", move bit 0.
 use Prim.Native.Nat.{ℕ, suc, _+_, _-_, _*_, _/_, _%_, _^_}
 use mathlib.Core.Bool.{Bool, true, false}
 use mathlib.Core.List.{List, [], _∷_}
@@ -38,21 +39,21 @@ halvedOf k top a = record { result = a / 2 + asNumber top * 2 ^ k; carry = eqb (
 -- operations 0 to 14, in their order
 unfoldable pub answers : ℕ → ℕ → ℕ → Bool → List AluOut
 answers k a b c =
-    plainOf a
-    ∷ sumOf k a 0 true
-    ∷ sumOf k b a c
-    ∷ sumOf k b a false
-    ∷ differenceOf k 0 a false
-    ∷ differenceOf k a 0 true
-    ∷ differenceOf k b a c
-    ∷ differenceOf k b a false
-    ∷ halvedOf k c a
-    ∷ halvedOf k (topOf k a) a
-    ∷ halvedOf k false a
-    ∷ plainOf (bitXor a b)
-    ∷ plainOf (bitOr a b)
-    ∷ plainOf (bitAnd a b)
-    ∷ plainOf (2 ^ suc k - 1 - a)
+    plainOf a  -- 0: a
+    ∷ sumOf k a 0 true  -- 1: a + 1
+    ∷ sumOf k b a c  -- 2: b + a + c
+    ∷ sumOf k b a false  -- 3: b + a
+    ∷ differenceOf k 0 a false  -- 4: 0 - a
+    ∷ differenceOf k a 0 true  -- 5: a - 1
+    ∷ differenceOf k b a c  -- 6: b - a - c
+    ∷ differenceOf k b a false  -- 7: b - a
+    ∷ halvedOf k c a  -- 8: a halved, top bit c
+    ∷ halvedOf k (topOf k a) a  -- 9: a halved, top bit kept
+    ∷ halvedOf k false a  -- 10: a halved, top bit 0
+    ∷ plainOf (bitXor a b)  -- 11: exclusive or
+    ∷ plainOf (bitOr a b)  -- 12: or
+    ∷ plainOf (bitAnd a b)  -- 13: and
+    ∷ plainOf (2 ^ suc k - 1 - a)  -- 14: complement of a
     ∷ []
 
 -- 15 moves a as 0 does

@@ -1,6 +1,7 @@
--- Words of any width from 1 bit up, as numbers, and their signed reading. Document 01, "Machine and instruction word", C and V. A width is written k + 1, so that its half power is `2 ^ k`.
+-- Words of any width from 1 bit up, as numbers, and their signed reading. Document 01, "Machine and instruction word", C and V. A width is
+-- written k + 1, so that its half power is `2 ^ k`.
 use Prim.Native.Nat.{ℕ, suc, _^_}
-use mathlib.Core.Bool.{Bool, true, false, not, cond, _||_, Bool·beq}
+use mathlib.Core.Bool.{Bool, true, false, not, cond, _&&_, _||_, Bool·beq}
 use lib.Dec.{ltb, leb}
 use lib.IntN.{ℤ, pos, negℤ, _-ℤ_}
 use lib.Signed.{ltZ, leZ}
@@ -17,6 +18,10 @@ a ⊕ b = not (Bool·beq a b)
 -- the top bit of a word of k + 1 bits
 abbrev pub topOf : ℕ → ℕ → Bool
 topOf k x = leb (2 ^ k) x
+
+-- overflow, from the top bits of two words and of their sum: both have the sign that the sum has not
+abbrev pub overflowOf : Bool → Bool → Bool → Bool
+overflowOf p q s = (p ⊕ s) && (q ⊕ s)
 
 -- the signed reading of a word of k + 1 bits: from 2 ^ k on it is 2 ^ (k + 1) less
 unfoldable pub signedOf : ℕ → ℕ → ℤ

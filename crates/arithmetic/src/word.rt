@@ -1,8 +1,7 @@
 // The arithmetic unit on whole words.
 use super::AluOut;
 ghost use mathlib.Core.Path.{_≡_};
-ghost use mathlib.Core.Bool.{_&&_};
-ghost use Rattle.arithmetic.specs.Words.{topOf, _⊕_};
+ghost use Rattle.arithmetic.specs.Words.{topOf, overflowOf};
 ghost use Rattle.arithmetic.specs.Alu.{plainOf, sumOf, differenceOf, halvedOf, aluOf};
 
 // The sign of a word.
@@ -14,7 +13,7 @@ fn top(x: u32) -> bool
 
 // Overflow of x + y, which is r, from the three signs; x is r - y, whose overflow is the same.
 fn overflow(x: u32, y: u32, r: u32) -> bool
-    ensures { λ v. ⌜ v ≡ ((topOf 31 x ⊕ topOf 31 r) && (topOf 31 y ⊕ topOf 31 r)) ⌝ }
+    ensures { λ v. ⌜ v ≡ overflowOf (topOf 31 x) (topOf 31 y) (topOf 31 r) ⌝ }
 {
     let sign = 0x8000_0000 <= r;
     ((0x8000_0000 <= x) ^ sign) & ((0x8000_0000 <= y) ^ sign)

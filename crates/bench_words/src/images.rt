@@ -1,6 +1,7 @@
 // Images made by the writer, some of them spoilt, and their ledgers.
 use image::WriteResult;
 use image_writer::write;
+use ledger_text::LONGEST_TEXT;
 use ledger_text::ReportAnswer;
 use ledger_text::report;
 use libc::STDOUT_FILENO;
@@ -33,14 +34,14 @@ fn show_in(name: &[u8], image: &[u8], size: usize, text: &mut [u8]) {
         ReportAnswer::Text(count) => {
             io::write_all(STDOUT_FILENO, &text[..count]);
         }
-        ReportAnswer::ShortOutput => {
+        ReportAnswer::NoRoom => {
             io::write_all(STDOUT_FILENO, b"no room\n");
         }
     }
 }
 
 fn show(name: &[u8], image: &[u8], size: usize) {
-    let mut text = [0u8; 496];
+    let mut text = [0u8; LONGEST_TEXT];
     show_in(name, image, size, &mut text);
 }
 
@@ -61,7 +62,7 @@ pub fn show_program(name: &[u8], words: &[u32], start: Machine) {
 // One byte less of output than the longest ledger needs.
 pub fn show_short(name: &[u8], words: &[u32], start: Machine) {
     let mut image = [0u8; 512];
-    let mut text = [0u8; 495];
+    let mut text = [0u8; LONGEST_TEXT - 1];
     let size = make(words, start, &mut image);
     show_in(name, &image, size, &mut text);
 }

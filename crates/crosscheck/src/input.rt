@@ -1,8 +1,8 @@
 // The input, read a word at a time; past its end every word is 0.
+use effects::unpacked;
 use libc::STDIN_FILENO;
-use model::Flags;
 use model::Machine;
-ghost use mathlib.Core.Path.{_≡_};
+use operands::wide;
 ghost use Prim.Native.Nat.{_≤_};
 
 // The longest memory and wait list of a case.
@@ -23,12 +23,6 @@ pub fn least(a: usize, b: usize) -> usize
 
 fn wide8(x: u8) -> u32 {
     x as u32
-}
-
-pub fn wide(x: u32) -> usize
-    ensures { λ r. ⌜ r ≡ x ⌝ }
-{
-    x as usize
 }
 
 pub fn next_word() -> u32 {
@@ -76,15 +70,6 @@ pub fn front_waits(waits: &[u16], count: usize) -> &[u16] {
     &waits[0..end]
 }
 
-fn flags_of(number: u32) -> Flags {
-    Flags {
-        carry: number & 8 != 0,
-        overflow: number & 4 != 0,
-        negative: number & 2 != 0,
-        zero: number & 1 != 0,
-    }
-}
-
 pub fn next_machine() -> Machine {
     let regs = [
         next_word(),
@@ -96,6 +81,6 @@ pub fn next_machine() -> Machine {
         next_word(),
         next_word(),
     ];
-    let flags = flags_of(next_word());
+    let flags = unpacked(next_word());
     Machine { regs, flags }
 }

@@ -1,7 +1,6 @@
 // An image: what the reader makes of it.
 use super::input::least;
 use super::input::next_number;
-use super::input::wide;
 use super::print::print;
 use super::print::print_machine;
 use super::print::print_number;
@@ -10,6 +9,7 @@ use super::print::print_words;
 use image::ReadAnswer;
 use libc::STDIN_FILENO;
 use model::Machine;
+use operands::wide;
 
 const MOST_ROOM: usize = 2_100;
 

@@ -8,7 +8,6 @@ use super::input::least;
 use super::input::next_list;
 use super::input::next_machine;
 use super::input::next_number;
-use super::input::wide;
 use super::print::print;
 use super::print::print_counted;
 use super::print::print_memory;
@@ -21,6 +20,7 @@ use interpreter::FileAnswer;
 use interpreter::RunAnswer;
 use model::GateState;
 use model::Machine;
+use operands::wide;
 
 const MOST_COUNT: usize = 64;
 

@@ -1,6 +1,7 @@
--- Generated cases of both engines: inputs, what the reference emulator gave, and whether the model's definitions give the same. A test of the definitions of document 01, "Machine and instruction word", "Clocks" and "File run and journal".
+-- Generated cases of both engines: inputs, what the reference emulator gave, and whether the model's definitions give the same. A test of
+-- the definitions of document 01, "Machine and instruction word", "Clocks" and "File run and journal".
 use Prim.Native.Nat.{ℕ, suc}
-use mathlib.Core.Bool.{Bool, true, false, cond, _&&_}
+use mathlib.Core.Bool.{Bool, true, false, cond, _&&_, Bool·beq}
 use mathlib.Core.List.{List, [], _∷_}
 use lib.Dec.{eqb}
 use lib.ListN.{getD}
@@ -29,11 +30,6 @@ isOutside Outside = true
 pub data RunCase : Type 0 where
   runCase : (memory regs : List ℕ) (flags : ℕ) (waits : List ℕ) (n : ℕ) (memory′ regs′ : List ℕ) (flags′ : ℕ) (journal : List ℕ) (ran clocks : ℕ) (outside : Bool) → RunCase
 
-abbrev pub sameBool : Bool → Bool → Bool
-sameBool true b = b
-sameBool false true = false
-sameBool false false = true
-
 abbrev pub runHolds : RunCase → Bool
 runHolds (runCase memory regs flags waits n memory′ regs′ flags′ journal ran clocks outside) =
     let start = begin (record { regs = regs; flags = flagsOf flags }) memory 0 in
@@ -44,7 +40,7 @@ runHolds (runCase memory regs flags waits n memory′ regs′ flags′ journal r
     && same (journalWords (journalPairs waits n start)) journal
     && eqb (r .ran) ran
     && eqb (r .clocks) clocks
-    && sameBool (isOutside (r .ending)) outside
+    && Bool·beq (isOutside (r .ending)) outside
 
 -- ---- gate runs; a state is its registers, and in a list its flags, row, latches, position, access begun, clocks left
 

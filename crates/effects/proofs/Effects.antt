@@ -1,17 +1,14 @@
 -- The storing condition past its eight cases.
-use Prim.Native.Nat.{ℕ, zero, suc}
-use mathlib.Core.Path.{_≡_, refl}
+use Prim.Native.Nat.{ℕ, suc, _-_, zero-le}
+use mathlib.Core.Path.{_≡_, sym, ap}
 use mathlib.Core.Bool.{true}
+use native.Mathlib.Omega.{arith}
+use Rattle.arithmetic.proofs.Operations.{NoneOf, above}
 use Rattle.model.specs.declared.Flags.{Flags}
 use Rattle.model.specs.Alu.{condition}
 
-pub always : (op : ℕ) (f : Flags) → (op ≡ 0 → ⊥) → (op ≡ 1 → ⊥) → (op ≡ 2 → ⊥) → (op ≡ 3 → ⊥) → (op ≡ 4 → ⊥) → (op ≡ 5 → ⊥) → (op ≡ 6 → ⊥) → (op ≡ 7 → ⊥) → true ≡ condition op f
-always zero f a b c d e g h i = absurd (a refl)
-always (suc zero) f a b c d e g h i = absurd (b refl)
-always (suc (suc zero)) f a b c d e g h i = absurd (c refl)
-always (suc (suc (suc zero))) f a b c d e g h i = absurd (d refl)
-always (suc (suc (suc (suc zero)))) f a b c d e g h i = absurd (e refl)
-always (suc (suc (suc (suc (suc zero))))) f a b c d e g h i = absurd (g refl)
-always (suc (suc (suc (suc (suc (suc zero)))))) f a b c d e g h i = absurd (h refl)
-always (suc (suc (suc (suc (suc (suc (suc zero))))))) f a b c d e g h i = absurd (i refl)
-always (suc (suc (suc (suc (suc (suc (suc (suc n)))))))) f a b c d e g h i = refl
+pub always : (op : ℕ) (f : Flags) → NoneOf 0 8 op → true ≡ condition op f
+always op f h =
+    let past = above 0 8 op h zero-le in
+    let e : op ≡ suc (suc (suc (suc (suc (suc (suc (suc (op - 8)))))))) = omega arith in
+    sym (ap (λ (n : ℕ). condition n f) e)

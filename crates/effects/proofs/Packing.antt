@@ -1,5 +1,5 @@
 -- Packed flags: packing and unpacking are inverse, and a masked merge chooses each flag by its permit.
-use Prim.Native.Nat.{ℕ, suc, zero, _+_, _-_, _*_, _/_, _%_, _<_}
+use Prim.Native.Nat.{ℕ, zero, _+_, _-_, _*_, _/_, _%_, _<_}
 use mathlib.Core.Path.{_≡_, refl, ap, _∙_}
 use mathlib.Core.Bool.{Bool, true, false, cond}
 use native.Mathlib.Nat.{div-one, div-div-eq-div-mul}
@@ -7,24 +7,13 @@ use native.Mathlib.Omega.{arith}
 use lib.Dec.{eqb}
 use lib.Pow.{mod-pow-add}
 use lib.Bits.{bitAnd, bitOr, and-le-l, and-block, or-block}
-use Rattle.arithmetic.specs.Words.{asNumber, topOf}
 use Rattle.arithmetic.specs.declared.AluOut.{AluOut}
-use Rattle.arithmetic.proofs.Sums.{bit-le}
+use Rattle.arithmetic.specs.Words.{asNumber, topOf}
+use Rattle.arithmetic.proofs.Sums.{bit-le, digit-bit, bit-digit}
 use Rattle.model.specs.declared.Flags.{Flags}
 use Rattle.model.specs.Words.{field, bit}
 use Rattle.model.specs.Alu.{flagsAfter}
 use Rattle.model.specs.Packed.{packedOf, flagsOf}
-
--- ---- one bit
-
-digit-bit : (b : Bool) {x : ℕ} → x ≡ asNumber b → eqb x 1 ≡ b
-digit-bit true e = rw e
-digit-bit false e = rw e
-
-bit-digit : (x : ℕ) → x < 2 → asNumber (eqb x 1) ≡ x
-bit-digit zero h = refl
-bit-digit (suc zero) h = refl
-bit-digit (suc (suc x)) h = absurd (omega arith)
 
 -- ---- packing and unpacking
 
@@ -119,7 +108,7 @@ merged-all p g f =
     ∙ omega arith)
 
 -- what the unit's answer has each flag be
-abbrev pub unitFlags : AluOut → Flags
+abbrev unitFlags : AluOut → Flags
 unitFlags out =
     record { carry = out .carry; overflow = out .overflow; negative = topOf 31 (out .result); zero = eqb (out .result) 0 }
 

@@ -11,7 +11,7 @@ use lib.ListN.{length}
 use Rattle.arithmetic.specs.Words.{asNumber}
 use Rattle.model.specs.declared.GateState.{GateState}
 use Rattle.model.specs.Words.{present}
-use Rattle.model.specs.Gates.{Gate, gate, work, isAccess, oneLess, remaining, positionNow, workOrWait, clock, gateRun}
+use Rattle.model.specs.Gates.{Gate, gate, withAccess, work, isAccess, oneLess, remaining, positionNow, workOrWait, clock, gateRun}
 use Rattle.step_table.specs.declared.Step.{Step}
 use Rattle.step_table.specs.Table.{stepOf, accesses, finishes}
 use Rattle.step_table.proofs.TableLaws.{access-mark}
@@ -19,7 +19,7 @@ use Rattle.gate_rows.specs.declared.latches.Latches.{Latches}
 use Rattle.gate_rows.specs.Work.{stateOf, Works, counted}
 use Rattle.gate_rows.proofs.StepLaws.{worked}
 use Rattle.gate_machine.specs.declared.access.Grant.{Grant}
-use Rattle.gate_machine.specs.Clock.{acknowledgedAt, untouchedAt, grantOf, withGrant, Ticks}
+use Rattle.gate_machine.specs.Clock.{acknowledgedAt, untouchedAt, grantOf, Ticks}
 
 pub less-one : (n : ℕ) → 0 < n → n - 1 ≡ oneLess n
 less-one zero h = refl
@@ -39,9 +39,12 @@ module _ (waits : List ℕ) (s : GateState) (memory : List ℕ) where
   abbrev grantAt : (access here : Bool) → ℕ → Grant
   grantAt access here left = cond access (cond here (acknowledgedAt left (positionNow waits s)) (untouchedAt false s)) (untouchedAt true s)
 
+  abbrev withGrant : Grant → GateState
+  withGrant g = withAccess (g .position) (g .begun) (g .left) s
+
   -- the work where the access grants it
   abbrev granting : ℕ → Grant → Gate
-  granting f g = cond (g .works) (work (gate (withGrant g s) memory f)) (gate (withGrant g s) memory f)
+  granting f g = cond (g .works) (work (gate (withGrant g) memory f)) (gate (withGrant g) memory f)
 
   clocked-at : (access here : Bool) (left f : ℕ)
       → granting f (grantAt access here left) ≡ cond access (cond here (workOrWait left (positionNow waits s) (gate s memory f)) (gate s memory f)) (work (gate s memory f))

@@ -1,4 +1,4 @@
--- A run that is accepted or turned down meets its contract.
+-- A gate run that is accepted or turned down meets its contract, and what the contract says of one that is carried out.
 use Prim.Native.Nat.{ℕ}
 use mathlib.Core.Path.{_≡_, sym, ap, _∙_}
 use mathlib.Core.List.{List}
@@ -10,31 +10,40 @@ use Rattle.model.specs.Refusals.{verdictNumber, gateVerdict}
 use Rattle.model.specs.Gates.{Gate, gate, gateRun}
 use Rattle.model.specs.Agreement.{gateFrom}
 use Rattle.gate_machine.specs.declared.GateAnswer.{GateAnswer}
-use Rattle.gate_machine.specs.Outcome.{Settled, ranAs, settled, gateOutcome, Runs}
+use Rattle.gate_machine.specs.declared.GateResult.{GateResult}
+use Rattle.gate_machine.specs.Calls.{gateResult, gateMemory, gateReturned, gateWords, Runs}
 
-module _ (memory waits : List ℕ) (start : GateState) where
-  module _ (clocks : ℕ) (v : Verdict) (said : v ≡ gateVerdict memory waits start) where
-    abbrev ended : Verdict → Settled
-    ended w = settled w (gateRun waits clocks (gateFrom start memory)) start memory
+module _ (memory waits : List ℕ) (start : GateState) (clocks : ℕ) (v : Verdict) (said : v ≡ gateVerdict memory waits start) where
+  abbrev end : Gate
+  end = gateRun waits clocks (gateFrom start memory)
 
-    outcome-at : {w : Verdict} → v ≡ w → ended w ≡ gateOutcome memory waits start clocks
-    unfolding gateOutcome
-    outcome-at e = ap ended (sym e ∙ said)
+  returned : {w : Verdict} → v ≡ w → gateResult w start end ≡ gateReturned memory waits start clocks
+  unfolding gateReturned
+  returned e = ap (λ (w : Verdict). gateResult w start end) (sym e ∙ said)
 
-    pub accepted : v ≡ Accepted → (s : GateState) (m : List ℕ) (f : ℕ) → gate s m f ≡ gateRun waits clocks (gateFrom start memory)
-        → Runs memory waits start clocks (record { answer = GateAnswer.Ran; state = s; finished = f }) m
-    accepted e s m f q =
-        record {
-          result = ap (λ (g : Gate). ranAs g .result) q ∙ ap (λ (x : Settled). x .result) (outcome-at e);
-          number = ap verdictNumber (sym e ∙ said);
-          words = ap (λ (g : Gate). g .memory) q ∙ ap (λ (x : Settled). x .memory) (outcome-at e);
-        }
+  left : {w : Verdict} → v ≡ w → gateMemory w memory end ≡ gateWords memory waits start clocks
+  unfolding gateWords
+  left e = ap (λ (w : Verdict). gateMemory w memory end) (sym e ∙ said)
 
-    pub turned-down : (why : Refusal) → v ≡ Refused why
-        → Runs memory waits start clocks (record { answer = GateAnswer.Refused why; state = start; finished = 0 }) memory
-    turned-down why e =
-        record {
-          result = ap (λ (x : Settled). x .result) (outcome-at e);
-          number = ap verdictNumber (sym e ∙ said);
-          words = ap (λ (x : Settled). x .memory) (outcome-at e);
-        }
+  pub accepted : v ≡ Accepted → (s : GateState) (m : List ℕ) (f : ℕ) → gate s m f ≡ end
+      → Runs memory waits start clocks m (record { answer = GateAnswer.Ran; state = s; finished = f })
+  accepted e s m f q =
+      record {
+        result = ap (gateResult Accepted start) q ∙ returned e;
+        words = ap (gateMemory Accepted memory) q ∙ left e;
+        number = ap verdictNumber (sym e ∙ said);
+      }
+
+  pub turned-down : (why : Refusal) → v ≡ Refused why
+      → Runs memory waits start clocks memory (record { answer = GateAnswer.Refused why; state = start; finished = 0 })
+  turned-down why e = record { result = returned e; words = left e; number = ap verdictNumber (sym e ∙ said) }
+
+-- what a call that is carried out returns and leaves
+pub carried-out : (memory waits : List ℕ) (start : GateState) (clocks : ℕ) {memory′ : List ℕ} {r : GateResult} → gateVerdict memory waits start ≡ Accepted
+    → Runs memory waits start clocks memory′ r → gate (r .state) memory′ (r .finished) ≡ gateRun waits clocks (gateFrom start memory)
+unfolding gateReturned gateWords
+carried-out memory waits start clocks {memory′} {r} e h =
+    let g = gateRun waits clocks (gateFrom start memory) in
+    let p : r ≡ gateResult Accepted start g = h .result ∙ ap (λ (v : Verdict). gateResult v start g) e in
+    let q : memory′ ≡ g .memory = h .words ∙ ap (λ (v : Verdict). gateMemory v memory g) e in
+    λ i. gate (p i .state) (q i) (p i .finished)

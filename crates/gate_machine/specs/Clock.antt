@@ -5,7 +5,7 @@ use mathlib.Core.Bool.{Bool, true, false, not, cond}
 use mathlib.Core.List.{List}
 use lib.Dec.{eqb}
 use Rattle.model.specs.declared.GateState.{GateState}
-use Rattle.model.specs.Gates.{gate, withAccess, remaining, positionNow, clock}
+use Rattle.model.specs.Gates.{gate, remaining, positionNow, clock}
 use Rattle.gate_rows.specs.Work.{counted}
 use Rattle.gate_machine.specs.declared.access.Grant.{Grant}
 
@@ -23,9 +23,6 @@ grantOf access here waits s =
     cond access
     (cond here (acknowledgedAt (remaining waits s) (positionNow waits s)) (untouchedAt false s))
     (untouchedAt true s)
-
-abbrev pub withGrant : Grant → GateState → GateState
-withGrant g s = withAccess (g .position) (g .begun) (g .left) s
 
 -- state, memory and count after one clock of the model
 abbrev pub Ticks : List ℕ → GateState → List ℕ → GateState → Bool → List ℕ → Type 0

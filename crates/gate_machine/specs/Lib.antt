@@ -1,2 +1,2 @@
 pub mod Clock
-pub mod Outcome
+pub mod Calls

@@ -1,4 +1,4 @@
-// The gate machine: a run of clocks, one clock by value, and one clock on a borrowed state.
+// The gate machine: a run of clocks, and one clock on a borrowed state.
 mod access;
 mod machine;
 mod parts;
@@ -8,7 +8,7 @@ use model::GateState;
 use model::Refusal;
 use model::Verdict;
 use refusals::gate_verdict;
-ghost use Rattle.gate_machine.specs.Outcome.{Runs, Clocks, LentClock};
+ghost use Rattle.gate_machine.specs.Calls.{Runs, Clocks, LentClock};
 
 pub enum GateAnswer {
     Ran,
@@ -34,10 +34,15 @@ struct Clocked {
 
 // All the clocks that are asked for, unless the call is turned down.
 pub fn run(memory: &mut [u32], waits: &[u16], start: GateState, clocks: u64) -> GateResult
-    ensures { λ r. ⌜ Runs (now (memory .entry)) (now (waits .entry)) start clocks r (now (memory .exit)) ⌝ }
+    ensures { λ r. ⌜ Runs (now (memory .entry)) (now (waits .entry)) start clocks (now (memory .exit)) r ⌝ }
 {
     let verdict = gate_verdict(&*memory, waits, start);
     match verdict {
+        Verdict::Refused(why) => GateResult {
+            answer: GateAnswer::Refused(why),
+            state: start,
+            finished: 0,
+        },
         Verdict::Accepted => {
             let end = run_clocks(memory, waits, start, clocks);
             let state = end.state;
@@ -47,17 +52,12 @@ pub fn run(memory: &mut [u32], waits: &[u16], start: GateState, clocks: u64) -> 
                 finished: end.finished,
             }
         }
-        Verdict::Refused(why) => GateResult {
-            answer: GateAnswer::Refused(why),
-            state: start,
-            finished: 0,
-        },
     }
 }
 
 // A run of one clock.
 fn clock(state: GateState, memory: &mut [u32], waits: &[u16]) -> Clocked
-    ensures { λ r. ⌜ Clocks (now (memory .entry)) (now (waits .entry)) state r (now (memory .exit)) ⌝ }
+    ensures { λ r. ⌜ Clocks (now (memory .entry)) (now (waits .entry)) state (now (memory .exit)) r ⌝ }
 {
     let r = run(memory, waits, state, 1);
     let answer = r.answer;
@@ -74,7 +74,7 @@ fn clock(state: GateState, memory: &mut [u32], waits: &[u16]) -> Clocked
 
 // One clock on a borrowed state: copied out, clocked by value, stored.
 pub fn clock_lent(state: &mut GateState, memory: &mut [u32], waits: &[u16]) -> Outcome
-    ensures { λ r. ⌜ LentClock (now (memory .entry)) (now (waits .entry)) (now (state .entry)) r (now (state .exit)) (now (memory .exit)) ⌝ }
+    ensures { λ r. ⌜ LentClock (now (memory .entry)) (now (waits .entry)) (now (state .entry)) (now (memory .exit)) (now (state .exit)) r ⌝ }
 {
     let s = *state;
     let r = clock(s, memory, waits);

@@ -6,6 +6,8 @@ use gate_rows::Latches;
 use gate_rows::work;
 use model::GateState;
 use model::Verdict;
+use step_table::ACCESS;
+use step_table::FINISHES;
 use step_table::Step;
 use step_table::steps;
 ghost use mathlib.Core.Path.{_≡_};
@@ -33,7 +35,7 @@ fn tick(s: Latches, step: Step, regs: &mut [u32; 8], memory: &mut [u32], waits: 
     requires { ⌜ (step ≡ stepOf (s .row)) × (length (now waits) ≤ 65536) ⌝ }
     ensures { λ r. ⌜ Ticks (now (waits .entry)) (stateOf (now (regs .entry)) s) (now (memory .entry)) (stateOf (now (regs .exit)) (r .latches)) (r .finished) (now (memory .exit)) ⌝ }
 {
-    let grant = granted(s, step.3 == 1, memory.len(), waits);
+    let grant = granted(s, step.3 == ACCESS, memory.len(), waits);
     let mut t = s;
     t.position = grant.position;
     t.left = grant.left;
@@ -47,7 +49,7 @@ fn tick(s: Latches, step: Step, regs: &mut [u32; 8], memory: &mut [u32], waits: 
     let u = work(t, step, regs, memory);
     Ticked {
         latches: u,
-        finished: step.3 == 2,
+        finished: step.3 == FINISHES,
     }
 }
 

@@ -1,20 +1,20 @@
 -- Laws for the row functions: a row's work from what its function leaves, and the two ways of preparing an operand.
-use Prim.Native.Nat.{ℕ, zero, suc, _≤_, zero-le}
+use Prim.Native.Nat.{ℕ, zero-le}
 use mathlib.Core.Path.{_≡_, refl, sym, ap, _∙_}
 use mathlib.Core.Bool.{Bool, true, false, cond}
 use mathlib.Core.List.{List}
-use native.Mathlib.Omega.{arith}
 use lib.ListN.{getD, List·getD-eq-default}
+use Rattle.arithmetic.proofs.Operations.{NoneOf, above}
 use Rattle.model.specs.declared.Operand.{Operand}
 use Rattle.model.specs.declared.GateState.{GateState}
 use Rattle.model.specs.Operands.{inMemory, stepDown, registerWord}
 use Rattle.model.specs.Gates.{Gate, gate, withRow, withRegs, withAddress, withA, withB, prepare, rows, work}
 use Rattle.step_table.specs.declared.Step.{Step}
 use Rattle.gate_rows.specs.declared.latches.Latches.{Latches}
-use Rattle.gate_rows.specs.Work.{stateOf, operandRow, nextRows, leads, Works, preparedBy}
+use Rattle.gate_rows.specs.Work.{stateOf, operandRow, nextRows, leads, Works}
 
 -- the model's row n, on registers, latches and memory
-abbrev pub rowOf : ℕ → Latches → List ℕ → List ℕ → Gate
+abbrev rowOf : ℕ → Latches → List ℕ → List ℕ → Gate
 rowOf n s regs memory = getD rows n (λ g. g) (gate (stateOf regs s) memory 0)
 
 -- what a row's function leaves is the work of the machine in that row
@@ -29,25 +29,13 @@ by step s regs memory n e p q =
       words = q ∙ ap (λ (k : ℕ). rowOf k s regs memory .memory) (sym e);
     }
 
--- r is none of the numbers below n
-abbrev pub NoneOf : ℕ → ℕ → Type 0
-NoneOf r zero = Unit
-NoneOf r (suc n) = NoneOf r n × (r ≡ n → ⊥)
-
-above : (r n : ℕ) → NoneOf r n → n ≤ r
-above r zero t = zero-le
-above r (suc n) t = more (above r n (t .0)) (t .1)
-  where
-    more : n ≤ r → (r ≡ n → ⊥) → suc n ≤ r
-    more h d = omega arith
-
 -- past the table there is no work
-pub past : (step : Step) (s : Latches) (regs memory : List ℕ) → NoneOf (s .row) 12 → Works step s regs memory s regs memory
+pub past : (step : Step) (s : Latches) (regs memory : List ℕ) → NoneOf 0 12 (s .row) → Works step s regs memory s regs memory
 unfolding work
 past step s regs memory h =
     let g = gate (stateOf regs s) memory 0 in
-    let e : getD rows (s .row) (λ h. h) ≡ (λ (h : Gate). h) = List·getD-eq-default rows (λ h. h) {n = s .row} (above (s .row) 12 h) in
-    let l : leads step (stateOf regs s) (s .row) ≡ s .row = List·getD-eq-default (nextRows step (stateOf regs s)) (s .row) {n = s .row} (above (s .row) 12 h) in
+    let e : getD rows (s .row) (λ h. h) ≡ (λ (h : Gate). h) = List·getD-eq-default rows (λ h. h) {n = s .row} (above 0 12 (s .row) h zero-le) in
+    let l : leads step (stateOf regs s) (s .row) ≡ s .row = List·getD-eq-default (nextRows step (stateOf regs s)) (s .row) {n = s .row} (above 0 12 (s .row) h zero-le) in
     record {
       state = λ i. withRow (sym l i) (sym e i g .state);
       words = λ i. sym e i g .memory;
@@ -56,10 +44,10 @@ past step s regs memory h =
 -- an operand prepared, in memory where b holds, by the function and by the model's row
 module _ (step : Step) (o : Operand) (latch : ℕ → GateState → GateState) (s : GateState) where
   pub prepared : (b : Bool) → b ≡ inMemory o → {regs : List ℕ} → regs ≡ stepDown o (s .regs) → {word : ℕ} → word ≡ registerWord o regs
-      → cond b (withRow (step .0) (withAddress word (withRegs regs s))) (withRow (step .1) (latch word (withRegs regs s))) ≡ preparedBy step o latch s
+      → cond b (withRow (step .0) (withAddress word (withRegs regs s))) (withRow (step .1) (latch word (withRegs regs s))) ≡ prepare o (step .0) (step .1) latch s
   prepared b e p q = rw (q, p, e)
 
-  pub prepares : (read next : ℕ) → preparedBy step o latch s ≡ withRow (operandRow step o) (prepare o read next latch s)
+  pub prepares : (read next : ℕ) → prepare o (step .0) (step .1) latch s ≡ withRow (operandRow step o) (prepare o read next latch s)
   prepares read next = go (inMemory o)
     where
       down : GateState
@@ -73,5 +61,5 @@ module _ (step : Step) (o : Operand) (latch : ℕ → GateState → GateState) (
 -- the operand latched is B where it is the second
 pub prepared-direct : (step : Step) (o : Operand) (s : GateState) {second : Bool} (v : Bool) → second ≡ v → false ≡ inMemory o
     → {regs : List ℕ} → regs ≡ stepDown o (s .regs) → {word : ℕ} → word ≡ registerWord o regs
-    → withRow (step .1) (cond v withB withA word (withRegs regs s)) ≡ preparedBy step o (cond second withB withA) s
+    → withRow (step .1) (cond v withB withA word (withRegs regs s)) ≡ prepare o (step .0) (step .1) (cond second withB withA) s
 prepared-direct step o s v e m p q = rw e (prepared step o (cond v withB withA) s false m p q)

@@ -8,7 +8,7 @@ use Rattle.model.specs.declared.GateState.{GateState}
 use Rattle.model.specs.Operands.{operandA, operandB, inMemory}
 use Rattle.model.specs.Gates.{Gate, gate, withRow, rows, work}
 use Rattle.step_table.specs.declared.Step.{Step}
-use Rattle.step_table.specs.Table.{stepOf, finishes}
+use Rattle.step_table.specs.Table.{stepTable, stepOf, finishes}
 use Rattle.gate_rows.specs.declared.latches.Latches.{Latches}
 use Rattle.gate_rows.specs.Work.{stateOf, leads, Works, counted}
 
@@ -27,7 +27,7 @@ same-row x s e = rw e
 
 -- row n's step does its work
 step-row : (n : ℕ) (s : GateState) (memory : List ℕ) (f : ℕ) → by-step n s memory f ≡ getD rows n (λ g. g) (gate s memory f)
-unfolding stepOf
+unfolding stepOf stepTable
 step-row zero s memory f = refl
 step-row (suc zero) s memory f = refl
 step-row (suc (suc zero)) s memory f = refl

@@ -6,9 +6,9 @@ use mathlib.Core.List.{List, [], _∷_}
 use lib.ListN.{getD}
 use Rattle.model.specs.declared.Operand.{Operand}
 use Rattle.model.specs.declared.GateState.{GateState}
-use Rattle.model.specs.Operands.{operandA, operandB, inMemory, stepDown, registerWord}
-use Rattle.model.specs.Alu.{alu, flagsAfter, stores}
-use Rattle.model.specs.Gates.{gate, withRow, withRegs, withFlags, withAddress, withResult, work}
+use Rattle.model.specs.Operands.{operandA, operandB, inMemory}
+use Rattle.model.specs.Alu.{stores}
+use Rattle.model.specs.Gates.{gate, withRow, work}
 use Rattle.step_table.specs.declared.Step.{Step}
 use Rattle.step_table.specs.Table.{memoryRow, directRow, skippedRow}
 use Rattle.gate_rows.specs.declared.latches.Latches.{Latches}
@@ -66,21 +66,6 @@ leads step s r = getD (nextRows step s) r (s .row)
 pub record Works (step : Step) (s : Latches) (regs memory : List ℕ) (s′ : Latches) (regs′ memory′ : List ℕ) : Type 0 where
   pub state : stateOf regs′ s′ ≡ withRow (leads step (stateOf regs s) (s .row)) (work (gate (stateOf regs s) memory 0) .state)
   pub words : memory′ ≡ work (gate (stateOf regs s) memory 0) .memory
-
--- ---- two rows' work, with a step
-
--- rows 3 and 5: the register steps down; its word is the address, or the operand where that is direct
-abbrev pub preparedBy : Step → Operand → (ℕ → GateState → GateState) → GateState → GateState
-preparedBy step o latch s =
-    let down = withRegs (stepDown o (s .regs)) s in
-    let word = registerWord o (down .regs) in
-    cond (inMemory o) (withRow (memoryRow step) (withAddress word down)) (withRow (directRow step) (latch word down))
-
--- row 7
-abbrev pub computed : Step → GateState → GateState
-computed step s =
-    let out = alu (s .instruction) (s .flags) (s .a) (s .b) in
-    withRow (storeRow step s) (withFlags (flagsAfter (s .instruction) (s .flags) out) (withResult (out .result) s))
 
 -- ---- the count
 

@@ -12,12 +12,13 @@ use operands::operand_b;
 use step_table::Step;
 ghost use mathlib.Core.Path.{_≡_};
 ghost use mathlib.Core.Bool.{cond};
-ghost use mathlib.Core.List.{List};
+ghost use mathlib.Core.List.{List, []};
 ghost use Prim.Native.Nat.{ℕ};
 ghost use Rattle.model.specs.Alu.{alu};
-ghost use Rattle.gate_rows.specs.Work.{stateOf, computed};
+ghost use Rattle.model.specs.Gates.{withRow, compute};
+ghost use Rattle.gate_rows.specs.Work.{stateOf, storeRow};
 
-// The arithmetic unit of gates, told by the instruction word; a move goes past it.
+// The arithmetic unit of gates, told by the instruction word. A move goes past it, which spares it the network: operation 0 gives the same.
 fn unit_of(word: u32, flags: Flags, a: u32, b: u32) -> AluOut
     ensures { λ r. ⌜ r ≡ alu word flags a b ⌝ }
 {
@@ -45,7 +46,7 @@ fn chosen(stored: bool, far: bool, step: Step) -> u8
 
 // Storing is decided on the flags before the instruction.
 pub fn compute(mut s: Latches, step: Step) -> Latches
-    ensures { λ r. ⌜ ((regs : List ℕ) → stateOf regs r ≡ computed step (stateOf regs s)) ⌝ }
+    ensures { λ r. ⌜ ((regs : List ℕ) → stateOf regs r ≡ withRow (storeRow step (stateOf regs s)) (compute [] (stateOf regs s))) ⌝ }
 {
     let word = s.instruction;
     let flags = s.flags;

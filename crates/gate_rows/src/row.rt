@@ -18,8 +18,8 @@ ghost use mathlib.Core.Path.{_≡_};
 ghost use mathlib.Core.Bool.{cond};
 ghost use mathlib.Core.List.{List};
 ghost use Prim.Native.Nat.{ℕ};
-ghost use Rattle.model.specs.Gates.{withRow, withInstruction, withAddress, withA, withB};
-ghost use Rattle.gate_rows.specs.Work.{stateOf, preparedBy, Works};
+ghost use Rattle.model.specs.Gates.{withRow, withInstruction, withAddress, withA, withB, prepare};
+ghost use Rattle.gate_rows.specs.Work.{stateOf, Works};
 
 fn moved(mut s: Latches, next: u8) -> Latches
     ensures { λ r. ⌜ ((regs : List ℕ) → stateOf regs r ≡ withRow next (stateOf regs s)) ⌝ }
@@ -62,7 +62,7 @@ fn latch_b(mut s: Latches, x: u32, next: u8) -> Latches
 
 // The register of A, or of B as the second operand, steps down; then its word is the address, or the operand where that is direct.
 fn prepare(s: Latches, o: Operand, second: bool, regs: &mut [u32; 8], step: Step) -> Latches
-    ensures { λ r. ⌜ stateOf (now (regs .exit)) r ≡ preparedBy step o (cond second withB withA) (stateOf (now (regs .entry)) s) ⌝ }
+    ensures { λ r. ⌜ stateOf (now (regs .exit)) r ≡ prepare o (step .0) (step .1) (cond second withB withA) (stateOf (now (regs .entry)) s) ⌝ }
 {
     step_down(o, &mut *regs);
     let word = register_word(o, &*regs);

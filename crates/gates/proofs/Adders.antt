@@ -1,4 +1,5 @@
--- Any adder with its flags, at every width of k + 1 bits. Of the adder only this is used: its sum and its carry are worth what the two rows and the carry in are.
+-- Any adder with its flags, at every width of k + 1 bits. Of the adder only this is used: its sum and its carry are worth what the two rows
+-- and the carry in are.
 use Prim.Native.Nat.{ℕ, suc, _+_, _*_, _^_, _≤_, _<_}
 use mathlib.Core.Path.{_≡_, refl, sym, ap, _∙_, subst}
 use mathlib.Core.Bool.{Bool, true, false, not}
@@ -9,19 +10,12 @@ use lib.ListN.{length, getD}
 use lib.Pow.{pow-pos}
 use borrow.Author.Tests.{le-leb, lt-leb, leb-true, leb-false}
 use Rattle.arithmetic.specs.declared.AluOut.{AluOut}
-use Rattle.arithmetic.specs.Words.{asNumber, topOf, _⊕_}
+use Rattle.arithmetic.specs.Words.{asNumber, topOf, overflowOf, _⊕_}
 use Rattle.arithmetic.specs.Alu.{plainOf, sumOf, differenceOf}
-use Rattle.gates.specs.Gates.{value, rippleSum, rippleCarry, overflowOf}
 use Rattle.arithmetic.proofs.Sums.{out-eq, sum-is, difference-is}
-use Rattle.gates.proofs.Worth.{one, three, xor-false, ripple-value, ripple-length, value-below, value-top}
-
--- s and d are a sum and a carry out of the rows p and q and the carry in f
-pub record Adds (p q : List Bool) (f : Bool) (s : List Bool) (d : Bool) : Type 0 where
-  pub long : length s ≡ length p
-  pub worth : value s + asNumber d * 2 ^ length p ≡ value p + value q + asNumber f
-
-pub ripple-adds : (p q : List Bool) (f : Bool) → length q ≡ length p → Adds p q f (rippleSum p q f) (rippleCarry p q f)
-ripple-adds p q f e = record { long = ripple-length p q f e; worth = ripple-value p q f e }
+use Rattle.gates.specs.Gates.{value}
+use Rattle.gates.specs.Theorems.{Adds}
+use Rattle.gates.proofs.Worth.{one, three, xor-false, value-below, value-top}
 
 -- the adder with its flags, the carry turned round for a difference
 abbrev pub flagged : ℕ → List Bool → List Bool → List Bool → Bool → Bool → AluOut

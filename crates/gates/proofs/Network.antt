@@ -8,23 +8,20 @@ use native.Mathlib.Nat.{div-div-eq-div-mul, div-add-mod'}
 use lib.ListN.{length, getD}
 use lib.Dec.{eqb}
 use Rattle.arithmetic.specs.declared.AluOut.{AluOut}
-use Rattle.arithmetic.specs.Words.{asNumber}
+use Rattle.arithmetic.specs.Words.{asNumber, overflowOf}
 use Rattle.arithmetic.specs.Alu.{plainOf, sumOf, differenceOf, halvedOf, answers, aluAt, aluOf}
+use Rattle.arithmetic.proofs.Sums.{out-eq, bit-le, bit-digit}
 use Rattle.gates.specs.declared.control.Lines.{Lines}
-use Rattle.gates.specs.Gates.{value, bitsOf, rippleSum, rippleCarry, codeOf, linesOf, firstRow, secondRow, carryOut, overflowOf}
-use Rattle.arithmetic.proofs.Sums.{out-eq, bit-le}
+use Rattle.gates.specs.Gates.{value, bitsOf, rippleSum, rippleCarry, codeOf, linesOf, firstRow, secondRow, carryOut}
+use Rattle.gates.specs.Theorems.{Adds, outOf, UnitAtEveryWidth, RippleUnit}
 use Rattle.gates.proofs.Turns.{length-bits}
-use Rattle.gates.proofs.Worth.{one, xor-false, xor-true, odd-bit, value-bits, value-below, value-top, value-low}
+use Rattle.gates.proofs.Worth.{one, xor-false, xor-true, ripple-adds, value-bits, value-below, value-top, value-low}
 use Rattle.gates.proofs.RowWorth.{pick-first, pick-second, first-length, table-value, none-digits, a-digits, b-digits, and-digits, or-digits, xor-digits, not-value, shift-value, second-length, taken, second-value, second-turned}
-use Rattle.gates.proofs.Adders.{Adds, ripple-adds, flagged, adder-sum, adder-difference, none-and, and-none}
+use Rattle.gates.proofs.Adders.{flagged, adder-sum, adder-difference, none-and, and-none}
 
 -- a shift puts the bit that it drops into the carry
 abbrev dropped : Bool → Bool → AluOut → AluOut
 dropped shift low o = record { result = o .result; carry = (shift && low) || o .carry; overflow = o .overflow }
-
--- what the unit gives where s and d are the adder's sum and carry
-abbrev pub outOf : ℕ → Lines → List Bool → List Bool → List Bool → Bool → AluOut
-outOf k l a b s d = dropped (l .shift) (getD a 0 false) (flagged k (firstRow l a b) (secondRow l a) s d (l .turn))
 
 module _ (k : ℕ) (l : Lines) (a b s : List Bool) (d : Bool) (la : length a ≡ suc k) (lb : length b ≡ suc k)
     (h : Adds (firstRow l a b) (secondRow l a) (l .carry) s d) where
@@ -77,34 +74,26 @@ module _ (k : ℕ) (l : Lines) (a b s : List Bool) (d : Bool) (la : length a ≡
 
 -- ---- the sixteen operations
 
-module _ (k : ℕ) (a b s : List Bool) (d c : Bool) (la : length a ≡ suc k) (lb : length b ≡ suc k) where
-  eq : length b ≡ length a
-  eq = lb ∙ sym la
+pub unit-right : UnitAtEveryWidth
+unfolding aluAt answers
+unit-right k a b s d c la lb false false false false h = sums k _ a b s d la lb h refl refl refl (table-value _ _ refl none-digits a b (lb ∙ sym la)) ∙ none-and k (value a) (value-below a (suc k) la)
+unit-right k a b s d c la lb true false false false h = sums k _ a b s d la lb h refl refl refl (table-value _ _ refl a-digits a b (lb ∙ sym la))
+unit-right k a b s d c la lb false true false false h = sums k _ a b s d la lb h refl refl (xor-false c) (table-value _ _ refl b-digits a b (lb ∙ sym la))
+unit-right k a b s d c la lb true true false false h = sums k _ a b s d la lb h refl refl refl (table-value _ _ refl b-digits a b (lb ∙ sym la))
+unit-right k a b s d c la lb false false true false h = differences k _ a b s d la lb h false refl refl refl (table-value _ _ refl none-digits a b (lb ∙ sym la))
+unit-right k a b s d c la lb true false true false h = differences k _ a b s d la lb h true refl refl refl (table-value _ _ refl a-digits a b (lb ∙ sym la))
+unit-right k a b s d c la lb false true true false h = differences k _ a b s d la lb h c refl refl (xor-true c) (table-value _ _ refl b-digits a b (lb ∙ sym la))
+unit-right k a b s d c la lb true true true false h = differences k _ a b s d la lb h false refl refl refl (table-value _ _ refl b-digits a b (lb ∙ sym la))
+unit-right k a b s d c la lb false false false true h = halves k _ a b s d la lb h refl refl refl refl (pick-first c (getD a k false))
+unit-right k a b s d c la lb true false false true h = halves k _ a b s d la lb h refl refl refl refl (pick-second c (getD a k false) ∙ value-top k a la)
+unit-right k a b s d c la lb false true false true h = halves k _ a b s d la lb h refl refl refl refl refl
+unit-right k a b s d c la lb true true false true h = plain k _ a b s d la lb h refl refl refl (table-value _ _ refl xor-digits a b (lb ∙ sym la))
+unit-right k a b s d c la lb false false true true h = plain k _ a b s d la lb h refl refl refl (table-value _ _ refl or-digits a b (lb ∙ sym la))
+unit-right k a b s d c la lb true false true true h = plain k _ a b s d la lb h refl refl refl (table-value _ _ refl and-digits a b (lb ∙ sym la))
+unit-right k a b s d c la lb false true true true h = plain k _ a b s d la lb h refl refl refl (complemented k _ a b s d la lb h refl refl refl refl refl)
+unit-right k a b s d c la lb true true true true h = plain k _ a b s d la lb h refl refl refl (table-value _ _ refl a-digits a b (lb ∙ sym la))
 
-  pub unit-right : (o0 o1 o2 o3 : Bool) → let l = linesOf o0 o1 o2 o3 c (getD a k false) in Adds (firstRow l a b) (secondRow l a) (l .carry) s d
-      → outOf k l a b s d ≡ aluAt k (codeOf o0 o1 o2 o3) (value a) (value b) c
-  unfolding aluAt answers
-  unit-right false false false false h = sums k _ a b s d la lb h refl refl refl (table-value _ _ refl none-digits a b eq) ∙ none-and k (value a) (value-below a (suc k) la)
-  unit-right true false false false h = sums k _ a b s d la lb h refl refl refl (table-value _ _ refl a-digits a b eq)
-  unit-right false true false false h = sums k _ a b s d la lb h refl refl (xor-false c) (table-value _ _ refl b-digits a b eq)
-  unit-right true true false false h = sums k _ a b s d la lb h refl refl refl (table-value _ _ refl b-digits a b eq)
-  unit-right false false true false h = differences k _ a b s d la lb h false refl refl refl (table-value _ _ refl none-digits a b eq)
-  unit-right true false true false h = differences k _ a b s d la lb h true refl refl refl (table-value _ _ refl a-digits a b eq)
-  unit-right false true true false h = differences k _ a b s d la lb h c refl refl (xor-true c) (table-value _ _ refl b-digits a b eq)
-  unit-right true true true false h = differences k _ a b s d la lb h false refl refl refl (table-value _ _ refl b-digits a b eq)
-  unit-right false false false true h = halves k _ a b s d la lb h refl refl refl refl (pick-first c (getD a k false))
-  unit-right true false false true h = halves k _ a b s d la lb h refl refl refl refl (pick-second c (getD a k false) ∙ value-top k a la)
-  unit-right false true false true h = halves k _ a b s d la lb h refl refl refl refl refl
-  unit-right true true false true h = plain k _ a b s d la lb h refl refl refl (table-value _ _ refl xor-digits a b eq)
-  unit-right false false true true h = plain k _ a b s d la lb h refl refl refl (table-value _ _ refl or-digits a b eq)
-  unit-right true false true true h = plain k _ a b s d la lb h refl refl refl (table-value _ _ refl and-digits a b eq)
-  unit-right false true true true h = plain k _ a b s d la lb h refl refl refl (complemented k _ a b s d la lb h refl refl refl refl refl)
-  unit-right true true true true h = plain k _ a b s d la lb h refl refl refl (table-value _ _ refl a-digits a b eq)
-
--- with the ripple adder, so for all widths together
-pub ripple-right : (k : ℕ) (a b : List Bool) (c : Bool) → length a ≡ suc k → length b ≡ suc k → (o0 o1 o2 o3 : Bool)
-    → let l = linesOf o0 o1 o2 o3 c (getD a k false) in
-    outOf k l a b (rippleSum (firstRow l a b) (secondRow l a) (l .carry)) (rippleCarry (firstRow l a b) (secondRow l a) (l .carry)) ≡ aluAt k (codeOf o0 o1 o2 o3) (value a) (value b) c
+pub ripple-right : RippleUnit
 ripple-right k a b c la lb o0 o1 o2 o3 =
     unit-right k a b _ _ c la lb o0 o1 o2 o3 (ripple-adds _ _ _ (second-length _ a ∙ sym (first-length _ a b (lb ∙ sym la))))
 
@@ -122,10 +111,10 @@ lines n =
     four n h1 h2 h3 q r0 r1 r2 r3 b0 b1 b2 b3 e0 e1 e2 e3 = omega arith
 
     back : (x : ℕ) → x ≡ x / 2 * 2 + asNumber (eqb (x % 2) 1)
-    back x = sym (div-add-mod' x 2) ∙ ap (λ (r : ℕ). x / 2 * 2 + r) (sym (odd-bit x))
+    back x = sym (div-add-mod' x 2) ∙ ap (λ (r : ℕ). x / 2 * 2 + r) (sym (bit-digit (x % 2) (omega arith)))
 
 -- the control lines by the operation's number
-abbrev pub steered : ℕ → Bool → Bool → Lines
+abbrev steered : ℕ → Bool → Bool → Lines
 steered n c sign = linesOf (eqb (n % 2) 1) (eqb (n / 2 % 2) 1) (eqb (n / 4 % 2) 1) (eqb (n / 8 % 2) 1) c sign
 
 -- the values on the wires, each as the function that makes it ensures

@@ -4,14 +4,14 @@ use mathlib.Core.Path.{_≡_, refl, sym, ap, ap₂, _∙_}
 use mathlib.Core.Bool.{Bool, true, false, _&&_}
 use mathlib.Core.List.{List, [], _∷_, _++_}
 use native.Mathlib.Omega.{arith}
-use native.Mathlib.Nat.{pow-suc}
+use native.Mathlib.Nat.{suc-inj, pow-suc}
 use lib.ListN.{length, getD}
 use lib.Bits.{bitAnd, bitOr, bitXor, differ, and-step, or-step, xor-step}
 use Rattle.arithmetic.specs.Words.{asNumber, _⊕_}
+use Rattle.arithmetic.proofs.Sums.{bit-le}
 use Rattle.gates.specs.declared.control.Lines.{Lines}
 use Rattle.gates.specs.Gates.{value, pick, entry, firstRow, secondRow}
-use Rattle.arithmetic.proofs.Sums.{bit-le}
-use Rattle.gates.proofs.Worth.{one, two, suc-eq, value-snoc}
+use Rattle.gates.proofs.Worth.{one, two, value-snoc}
 
 pub pick-first : (p q : Bool) → pick false p q ≡ p
 pick-first = two _ refl refl refl refl
@@ -25,7 +25,7 @@ pub first-length : (l : Lines) (a b : List Bool) → length b ≡ length a → l
 unfolding firstRow
 first-length l [] b e = refl
 first-length l (x ∷ a) [] e = e
-first-length l (x ∷ a) (y ∷ b) e = ap suc (first-length l a b (suc-eq e))
+first-length l (x ∷ a) (y ∷ b) e = ap suc (first-length l a b (suc-inj e))
 
 -- an operation on numbers that goes by binary digits as the table does
 pub record Digits (t00 t01 t10 t11 : Bool) (op : ℕ → ℕ → ℕ) : Type 0 where
@@ -39,7 +39,7 @@ table-value l op s d [] [] e = sym (d .none)
 table-value l op s d [] (y ∷ b) e = absurd (let h : suc (length b) ≡ 0 = e in omega arith)
 table-value l op s d (x ∷ a) [] e = absurd (let h : 0 ≡ suc (length a) = e in omega arith)
 table-value l op s d (x ∷ a) (y ∷ b) e =
-    ap₂ (λ (t : Bool) (n : ℕ). asNumber (pick t (entry (l .t00) (l .t01) (l .t10) (l .t11) x y) (getD a 0 (l .top))) + 2 * n) s (table-value l op s d a b (suc-eq e))
+    ap₂ (λ (t : Bool) (n : ℕ). asNumber (pick t (entry (l .t00) (l .t01) (l .t10) (l .t11) x y) (getD a 0 (l .top))) + 2 * n) s (table-value l op s d a b (suc-inj e))
     ∙ ap (λ (t : Bool). asNumber t + 2 * op (value a) (value b)) (pick-first (entry (l .t00) (l .t01) (l .t10) (l .t11) x y) (getD a 0 (l .top)))
     ∙ sym (d .more x y (value a) (value b))
 
@@ -87,7 +87,7 @@ b-digits = record { none = refl; more = λ x y a b. bit-alone false true false t
 
 -- ---- the first row as a shift
 
-pub shift-row : (l : Lines) (x : Bool) (a b : List Bool) → l .shift ≡ true → length b ≡ suc (length a) → firstRow l (x ∷ a) b ≡ a ++ (l .top ∷ [])
+shift-row : (l : Lines) (x : Bool) (a b : List Bool) → l .shift ≡ true → length b ≡ suc (length a) → firstRow l (x ∷ a) b ≡ a ++ (l .top ∷ [])
 unfolding firstRow
 shift-row l x a [] s e = absurd (let h : 0 ≡ suc (length a) = e in omega arith)
 shift-row l x [] (y ∷ []) s e =
@@ -96,14 +96,14 @@ shift-row l x [] (y ∷ []) s e =
 shift-row l x [] (y ∷ z ∷ b) s e = absurd (let h : suc (suc (length b)) ≡ 1 = e in omega arith)
 shift-row l x (w ∷ a) (y ∷ b) s e =
     ap (λ (t : Bool). pick t (entry (l .t00) (l .t01) (l .t10) (l .t11) x y) w ∷ firstRow l (w ∷ a) b) s
-    ∙ ap₂ (λ (t : Bool) (m : List Bool). t ∷ m) (pick-second (entry (l .t00) (l .t01) (l .t10) (l .t11) x y) w) (shift-row l w a b s (suc-eq e))
+    ∙ ap₂ (λ (t : Bool) (m : List Bool). t ∷ m) (pick-second (entry (l .t00) (l .t01) (l .t10) (l .t11) x y) w) (shift-row l w a b s (suc-inj e))
 
 pub shift-value : (k : ℕ) (l : Lines) (a b : List Bool) → l .shift ≡ true → length a ≡ suc k → length b ≡ suc k → value (firstRow l a b) ≡ value a / 2 + asNumber (l .top) * 2 ^ k
 unfolding value
 shift-value k l [] b s ea eb = absurd (let h : 0 ≡ suc k = ea in omega arith)
 shift-value k l (x ∷ a) b s ea eb =
     ap value (shift-row l x a b s (eb ∙ sym ea)) ∙ value-snoc a (l .top)
-    ∙ ap₂ (λ (n m : ℕ). n + asNumber (l .top) * 2 ^ m) (sym (half x (value a))) (suc-eq ea)
+    ∙ ap₂ (λ (n m : ℕ). n + asNumber (l .top) * 2 ^ m) (sym (half x (value a))) (suc-inj ea)
 
 -- ---- the second row
 
@@ -154,4 +154,4 @@ not-value l s e00 e01 e10 e11 (x ∷ a) [] e = absurd (let h : 0 ≡ suc (length
 not-value l s e00 e01 e10 e11 (x ∷ a) (y ∷ b) e =
     (λ i. asNumber (pick (s i) (entry (e00 i) (e01 i) (e10 i) (e11 i) x y) (getD a 0 (l .top))) + 2 * value (firstRow l a b) + (asNumber x + 2 * value a) + 1)
     ∙ ap (λ (t : Bool). asNumber t + 2 * value (firstRow l a b) + (asNumber x + 2 * value a) + 1) (pick-first (entry true true false false x y) (getD a 0 (l .top)))
-    ∙ omega (arith, two (λ x y. asNumber (entry true true false false x y) + asNumber x ≡ 1) refl refl refl refl x y, not-value l s e00 e01 e10 e11 a b (suc-eq e), pow-suc 2 (length a))
+    ∙ omega (arith, two (λ x y. asNumber (entry true true false false x y) + asNumber x ≡ 1) refl refl refl refl x y, not-value l s e00 e01 e10 e11 a b (suc-inj e), pow-suc 2 (length a))

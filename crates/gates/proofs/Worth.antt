@@ -4,16 +4,16 @@ use mathlib.Core.Path.{_≡_, refl, sym, ap, _∙_, subst}
 use mathlib.Core.Bool.{Bool, true, false, not}
 use mathlib.Core.List.{List, [], _∷_, _++_}
 use native.Mathlib.Omega.{arith}
-use native.Mathlib.Nat.{pow-suc, mul-comm, mul-assoc, le-of-eq, le-trans, sub-le, lt-of-lt-of-le}
+use native.Mathlib.Nat.{suc-inj, pow-suc, mul-comm, mul-assoc, le-of-eq, le-trans, sub-le, lt-of-lt-of-le}
 use lib.ListN.{length, drop, getD, length-drop, drop-of-length-le}
 use lib.Seq.{drop-cons}
 use lib.Pow.{pow-mono}
 use lib.Dec.{eqb}
-use borrow.Author.Tests.{eqb-true, eqb-false}
 use Rattle.arithmetic.specs.Words.{asNumber, topOf, _⊕_}
-use Rattle.gates.specs.Gates.{value, bitsOf, fullSum, fullCarry, rippleSum, rippleCarry}
 use Rattle.arithmetic.proofs.Integers.{same-leb}
-use Rattle.arithmetic.proofs.Sums.{bit-le}
+use Rattle.arithmetic.proofs.Sums.{bit-le, bit-digit}
+use Rattle.gates.specs.Gates.{value, bitsOf, fullSum, fullCarry, rippleSum, rippleCarry}
+use Rattle.gates.specs.Theorems.{RippleAdds}
 
 -- what is shown of both bits, of two, of three
 pub one : (P : Bool → Type 0) → P true → P false → (x : Bool) → P x
@@ -35,9 +35,6 @@ xor-false = one _ refl refl
 pub xor-true : (t : Bool) → (t ⊕ true) ≡ not t
 xor-true = one _ refl refl
 
-pub suc-eq : {m n : ℕ} → suc m ≡ suc n → m ≡ n
-suc-eq {m} {n} e = omega arith
-
 -- one more place doubles what a bit is worth
 double : (b n : ℕ) → b * 2 ^ suc n ≡ 2 * (b * 2 ^ n)
 double b n = ap (λ (x : ℕ). b * x) (pow-suc 2 n) ∙ sym (mul-assoc b (2 ^ n) 2) ∙ mul-comm (b * 2 ^ n) 2
@@ -47,27 +44,20 @@ double b n = ap (λ (x : ℕ). b * x) (pow-suc 2 n) ∙ sym (mul-assoc b (2 ^ n)
 full-value : (a b c : Bool) → asNumber (fullSum a b c) + 2 * asNumber (fullCarry a b c) ≡ asNumber a + asNumber b + asNumber c
 full-value = three _ refl refl refl refl refl refl refl refl
 
-pub ripple-value : (a b : List Bool) (c : Bool) → length b ≡ length a
-    → value (rippleSum a b c) + asNumber (rippleCarry a b c) * 2 ^ length a ≡ value a + value b + asNumber c
+pub ripple-adds : RippleAdds
 unfolding value rippleSum rippleCarry
-ripple-value [] [] c e = omega arith
-ripple-value [] (y ∷ b) c e = absurd (let h : suc (length b) ≡ 0 = e in omega arith)
-ripple-value (x ∷ a) [] c e = absurd (let h : 0 ≡ suc (length a) = e in omega arith)
-ripple-value (x ∷ a) (y ∷ b) c e =
-    let ih = ripple-value a b (fullCarry x y c) (suc-eq e) in
+ripple-adds [] [] c e = record { long = refl; worth = omega arith }
+ripple-adds [] (y ∷ b) c e = absurd (let h : suc (length b) ≡ 0 = e in omega arith)
+ripple-adds (x ∷ a) [] c e = absurd (let h : 0 ≡ suc (length a) = e in omega arith)
+ripple-adds (x ∷ a) (y ∷ b) c e =
+    let h = ripple-adds a b (fullCarry x y c) (suc-inj e) in
     let f = full-value x y c in
     let d = double (asNumber (rippleCarry a b (fullCarry x y c))) (length a) in
-    omega arith
-
-pub ripple-length : (a b : List Bool) (c : Bool) → length b ≡ length a → length (rippleSum a b c) ≡ length a
-unfolding rippleSum
-ripple-length [] b c e = refl
-ripple-length (x ∷ a) [] c e = e
-ripple-length (x ∷ a) (y ∷ b) c e = ap suc (ripple-length a b (fullCarry x y c) (suc-eq e))
+    record { long = ap suc (h .long); worth = omega (arith, h .worth) }
 
 -- ---- bounds, the top bit, the lowest bit
 
-pub value-lt : (l : List Bool) → value l < 2 ^ length l
+value-lt : (l : List Bool) → value l < 2 ^ length l
 unfolding value
 value-lt [] = omega arith
 value-lt (b ∷ l) = omega (arith, value-lt l, bit-le b, pow-suc 2 (length l))
@@ -82,7 +72,7 @@ value-top zero (true ∷ []) e = refl
 value-top zero (false ∷ []) e = refl
 value-top zero (b ∷ x ∷ l) e = absurd (let h : suc (suc (length l)) ≡ 1 = e in omega arith)
 value-top (suc k) (b ∷ l) e =
-    value-top k l (suc-eq e)
+    value-top k l (suc-inj e)
     ∙ same-leb (2 ^ k) (value l) (2 ^ suc k) (asNumber b + 2 * value l) (λ h. omega (arith, bit-le b, pow-suc 2 k)) (λ h. omega (arith, bit-le b, pow-suc 2 k))
 
 pub value-low : (l : List Bool) → eqb (value l % 2) 1 ≡ getD l 0 false
@@ -93,17 +83,10 @@ value-low (false ∷ l) = ap (λ (n : ℕ). eqb n 1) (let h : (0 + 2 * value l) 
 
 -- ---- words to bits and back
 
-pub odd-bit : (x : ℕ) → asNumber (eqb (x % 2) 1) ≡ x % 2
-odd-bit x = go (eqb (x % 2) 1) refl
-  where
-    go : (t : Bool) → eqb (x % 2) 1 ≡ t → asNumber t ≡ x % 2
-    go true e = sym (eqb-true (x % 2) 1 e)
-    go false e = let n : (x % 2 ≡ 1 → ⊥) = eqb-false (x % 2) 1 e in omega arith
-
 pub value-bits : (n x : ℕ) → x < 2 ^ n → value (bitsOf n x) ≡ x
 unfolding value bitsOf
 value-bits zero x h = omega arith
-value-bits (suc n) x h = let l : x / 2 < 2 ^ n = omega (arith, pow-suc 2 n) in omega (arith, odd-bit x, value-bits n (x / 2) l)
+value-bits (suc n) x h = let l : x / 2 < 2 ^ n = omega (arith, pow-suc 2 n) in omega (arith, bit-digit (x % 2) (omega arith), value-bits n (x / 2) l)
 
 -- one more bit above
 pub value-snoc : (l : List Bool) (t : Bool) → value (l ++ (t ∷ [])) ≡ value l + asNumber t * 2 ^ length l

@@ -106,7 +106,3 @@ codeOf o0 o1 o2 o3 = asNumber o0 + 2 * asNumber o1 + 4 * asNumber o2 + 8 * asNum
 -- carry out, or borrow: a difference is below zero where its sum with the complement does not carry; in a shift a's lowest bit
 abbrev pub carryOut : Lines → Bool → Bool → Bool
 carryOut l low c = (l .shift && low) || (c ⊕ l .turn)
-
--- overflow, from the top bits of two rows and of their sum
-abbrev pub overflowOf : Bool → Bool → Bool → Bool
-overflowOf p q s = (p ⊕ s) && (q ⊕ s)

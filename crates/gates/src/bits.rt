@@ -3,7 +3,6 @@ ghost use mathlib.Core.Path.{_≡_};
 ghost use mathlib.Core.Bool.{false};
 ghost use Prim.Native.Nat.{_+_, _<_, _≤_};
 ghost use lib.ListN.{length, getD};
-ghost use Rattle.arithmetic.specs.Words.{asNumber};
 ghost use Rattle.gates.specs.Gates.{value, bitsOf};
 
 // The bit of a word at a place, the lowest at 0.
@@ -26,13 +25,6 @@ pub fn above(word: u32, place: usize, top: bool) -> bool
     }
 }
 
-// A bit as a word.
-fn digit(b: bool) -> u32
-    ensures { λ r. ⌜ r ≡ asNumber b ⌝ }
-{
-    if b { 1 } else { 0 }
-}
-
 // The word of a row of at most 32 bits.
 pub fn from_bits(bits: &[bool]) -> u32
     requires { ⌜ length (now bits) ≤ 32 ⌝ }
@@ -42,7 +34,7 @@ pub fn from_bits(bits: &[bool]) -> u32
     let mut i = bits.len();
     while 0 < i {
         i -= 1;
-        r = 2 * r + digit(bits[i]);
+        r = 2 * r + (bits[i] as u32);
     }
     r
 }

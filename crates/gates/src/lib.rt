@@ -1,4 +1,5 @@
-// The arithmetic unit of the FM8502 made of gates, against the definition of the crate arithmetic. A gate is one of `!`, `&`, `|` and `^` on single bits.
+// The arithmetic unit of the FM8502 made of gates, against the definition of the crate arithmetic. A gate is one of `!`, `&`, `|` and `^`
+// on single bits.
 mod adder;
 mod bits;
 mod control;

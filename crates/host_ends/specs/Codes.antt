@@ -7,13 +7,19 @@ use lib.Dec.{eqb}
 use Rattle.model.specs.declared.Refusal.{Refusal}
 use Rattle.model.specs.Refusals.{refusalNumber}
 use Rattle.interpreter.specs.declared.RunAnswer.{RunAnswer}
+use Rattle.interpreter.specs.declared.RunResult.{RunResult}
 use Rattle.interpreter.specs.declared.FileAnswer.{FileAnswer}
+use Rattle.interpreter.specs.declared.FileResult.{FileResult}
 use Rattle.gate_machine.specs.declared.GateAnswer.{GateAnswer}
+use Rattle.gate_machine.specs.declared.GateResult.{GateResult}
 use Rattle.image.specs.declared.ReadAnswer.{ReadAnswer}
+use Rattle.image.specs.declared.ReadResult.{ReadResult}
 use Rattle.image.specs.declared.WriteResult.{WriteResult}
-use Rattle.host_words.specs.Words.{laid}
+use Rattle.image.specs.Calls.{readCount, writeSize}
+use Rattle.host_reading.specs.Layout.{machineSize, stateSize}
+use Rattle.host_words.specs.Words.{machineWords, stateWords, laid}
 
--- carried out; carried out and ended "outside" or "undone"; turned down; what is lent has not the layout's form
+-- carried out; carried out and ended "outside" or "undone"; turned down; what is lent has not the layout's lengths
 pub data Code : Type 0 where
   done stopped misfit : Code
   refused : Refusal → Code
@@ -47,12 +53,7 @@ abbrev pub writeCode : WriteResult → Code
 writeCode (WriteResult.Written size) = done
 writeCode (WriteResult.Refused why) = refused why
 
--- the bytes that a written image has; a refused call writes none
-abbrev pub writeSize : WriteResult → ℕ
-writeSize (WriteResult.Written size) = size
-writeSize (WriteResult.Refused why) = 0
-
--- the code of a call that goes on only where what is lent has the layout's form
+-- the code of a call that goes on only where what is lent has the layout's lengths
 abbrev pub codeIf : Bool → Code → Code
 codeIf fits code = cond fits code misfit
 
@@ -63,16 +64,29 @@ afterCall stopped put former = put
 afterCall misfit put former = former
 afterCall (refused why) put former = former
 
--- a write's end: the number that it returns, the result's place
-pub record WriteEnds (r : WriteResult) (result result′ : List ℕ) (number : ℕ) : Type 0 where
-  pub returned : number ≡ codeNumber (writeCode r)
-  pub numbers : result′ ≡ afterCall (writeCode r) (laid 1 (writeSize r ∷ []) result) result
-
 -- a call's end: the number that it returns, a machine's or a state's words, the result's places
 pub record Ends (code : Code) (words places state result state′ result′ : List ℕ) (number : ℕ) : Type 0 where
   pub returned : number ≡ codeNumber code
   pub registers : state′ ≡ afterCall code words state
   pub numbers : result′ ≡ afterCall code places result
+
+-- the ends of the calls that leave a machine or a state: what is lent at entry and at exit, the number
+abbrev pub RunEnds : RunResult → (machine result machine′ result′ : List ℕ) → ℕ → Type 0
+RunEnds r machine result = Ends (runCode (r .answer)) (laid machineSize (machineWords (r .machine)) machine) (laid 2 (r .ran ∷ r .clocks ∷ []) result) machine result
+
+abbrev pub FileEnds : FileResult → (machine result machine′ result′ : List ℕ) → ℕ → Type 0
+FileEnds r machine result = Ends (fileCode (r .answer)) (laid machineSize (machineWords (r .machine)) machine) (laid 2 (r .ran ∷ r .pairs ∷ []) result) machine result
+
+abbrev pub GateEnds : GateResult → (state result state′ result′ : List ℕ) → ℕ → Type 0
+GateEnds r state result = Ends (gateCode (r .answer)) (laid stateSize (stateWords (r .state)) state) (laid 1 (r .finished ∷ []) result) state result
+
+abbrev pub ReadEnds : ReadResult → (machine result machine′ result′ : List ℕ) → ℕ → Type 0
+ReadEnds r machine result = Ends (readCode (r .answer)) (laid machineSize (machineWords (r .machine)) machine) (laid 1 (readCount (r .answer) ∷ []) result) machine result
+
+-- a write's end: the number that it returns, the result's place
+pub record WriteEnds (r : WriteResult) (result result′ : List ℕ) (number : ℕ) : Type 0 where
+  pub returned : number ≡ codeNumber (writeCode r)
+  pub numbers : result′ ≡ afterCall (writeCode r) (laid 1 (writeSize r ∷ []) result) result
 
 -- ---- the same by the code's number: whether the call was carried out
 

@@ -1,5 +1,5 @@
 // The codes that a call returns beside a refusal's number, 1 to 15: carried out; carried out and ended "outside" or "undone"; what is lent
-// has not the layout's form.
+// has not the layout's lengths.
 use interpreter::FileAnswer;
 use interpreter::RunAnswer;
 use refusals::refusal_number;

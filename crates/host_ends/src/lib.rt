@@ -21,14 +21,13 @@ use places::put_one;
 use places::put_two;
 use refusals::refusal_number;
 ghost use mathlib.Core.List.{[], _∷_};
-ghost use Rattle.image.specs.Calls.{readCount};
-ghost use Rattle.host_reading.specs.Layout.{machineSize, stateSize};
-ghost use Rattle.host_words.specs.Words.{machineWords, stateWords, laid};
-ghost use Rattle.host_ends.specs.Codes.{runCode, fileCode, gateCode, readCode, Ends, WriteEnds, EndsBy};
+ghost use Rattle.host_reading.specs.Layout.{machineSize};
+ghost use Rattle.host_words.specs.Words.{machineWords, laid};
+ghost use Rattle.host_ends.specs.Codes.{RunEnds, FileEnds, GateEnds, ReadEnds, WriteEnds, EndsBy};
 
 // A machine, and the instructions that ran with a run's other number.
 fn end_machine(code: u32, m: Machine, ran: u32, other: u64, machine: &mut [u32], result: &mut [u64])
-    ensures { λ r. ⌜ EndsBy code (laid machineSize (machineWords m) (now (machine .entry))) (laid 2 (ran ∷ other ∷ []) (now (result .entry))) (now (machine .entry)) (now (result .entry)) (now (machine .exit)) (now (result .exit)) ⌝ }
+    ensures { λ _. ⌜ EndsBy code (laid machineSize (machineWords m) (now (machine .entry))) (laid 2 (ran ∷ other ∷ []) (now (result .entry))) (now (machine .entry)) (now (result .entry)) (now (machine .exit)) (now (result .exit)) ⌝ }
 {
     let carried = (code == DONE) | (code == STOPPED);
     if carried {
@@ -38,7 +37,7 @@ fn end_machine(code: u32, m: Machine, ran: u32, other: u64, machine: &mut [u32],
 }
 
 pub fn end_run(r: RunResult, machine: &mut [u32], result: &mut [u64]) -> u32
-    ensures { λ code. ⌜ Ends (runCode (r .answer)) (laid machineSize (machineWords (r .machine)) (now (machine .entry))) (laid 2 (r .ran ∷ r .clocks ∷ []) (now (result .entry))) (now (machine .entry)) (now (result .entry)) (now (machine .exit)) (now (result .exit)) code ⌝ }
+    ensures { λ code. ⌜ RunEnds r (now (machine .entry)) (now (result .entry)) (now (machine .exit)) (now (result .exit)) code ⌝ }
 {
     let answer = r.answer;
     let after = r.machine;
@@ -48,7 +47,7 @@ pub fn end_run(r: RunResult, machine: &mut [u32], result: &mut [u64]) -> u32
 }
 
 pub fn end_file_run(r: FileResult, machine: &mut [u32], result: &mut [u64]) -> u32
-    ensures { λ code. ⌜ Ends (fileCode (r .answer)) (laid machineSize (machineWords (r .machine)) (now (machine .entry))) (laid 2 (r .ran ∷ r .pairs ∷ []) (now (result .entry))) (now (machine .entry)) (now (result .entry)) (now (machine .exit)) (now (result .exit)) code ⌝ }
+    ensures { λ code. ⌜ FileEnds r (now (machine .entry)) (now (result .entry)) (now (machine .exit)) (now (result .exit)) code ⌝ }
 {
     let answer = r.answer;
     let after = r.machine;
@@ -65,7 +64,7 @@ pub fn end_file_run(r: FileResult, machine: &mut [u32], result: &mut [u64]) -> u
 }
 
 pub fn end_gate_run(r: GateResult, state: &mut [u32], result: &mut [u64]) -> u32
-    ensures { λ code. ⌜ Ends (gateCode (r .answer)) (laid stateSize (stateWords (r .state)) (now (state .entry))) (laid 1 (r .finished ∷ []) (now (result .entry))) (now (state .entry)) (now (result .entry)) (now (state .exit)) (now (result .exit)) code ⌝ }
+    ensures { λ code. ⌜ GateEnds r (now (state .entry)) (now (result .entry)) (now (state .exit)) (now (result .exit)) code ⌝ }
 {
     let answer = r.answer;
     let after = r.state;
@@ -80,7 +79,7 @@ pub fn end_gate_run(r: GateResult, state: &mut [u32], result: &mut [u64]) -> u32
 }
 
 pub fn end_read(r: ReadResult, machine: &mut [u32], result: &mut [u64]) -> u32
-    ensures { λ code. ⌜ Ends (readCode (r .answer)) (laid machineSize (machineWords (r .machine)) (now (machine .entry))) (laid 1 (readCount (r .answer) ∷ []) (now (result .entry))) (now (machine .entry)) (now (result .entry)) (now (machine .exit)) (now (result .exit)) code ⌝ }
+    ensures { λ code. ⌜ ReadEnds r (now (machine .entry)) (now (result .entry)) (now (machine .exit)) (now (result .exit)) code ⌝ }
 {
     let answer = r.answer;
     let after = r.machine;

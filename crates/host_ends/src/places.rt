@@ -4,7 +4,7 @@ ghost use mathlib.Core.List.{[], _∷_};
 ghost use Rattle.host_words.specs.Words.{laid};
 
 pub fn put_one(x: u64, result: &mut [u64])
-    ensures { λ r. ⌜ now (result .exit) ≡ laid 1 (x ∷ []) (now (result .entry)) ⌝ }
+    ensures { λ _. ⌜ now (result .exit) ≡ laid 1 (x ∷ []) (now (result .entry)) ⌝ }
 {
     if result.len() == 1 {
         result[0] = x;
@@ -12,7 +12,7 @@ pub fn put_one(x: u64, result: &mut [u64])
 }
 
 pub fn put_two(x: u64, y: u64, result: &mut [u64])
-    ensures { λ r. ⌜ now (result .exit) ≡ laid 2 (x ∷ y ∷ []) (now (result .entry)) ⌝ }
+    ensures { λ _. ⌜ now (result .exit) ≡ laid 2 (x ∷ y ∷ []) (now (result .entry)) ⌝ }
 {
     if result.len() == 2 {
         result[0] = x;

@@ -10,18 +10,19 @@ use Rattle.model.specs.declared.GateState.{GateState}
 use Rattle.model.specs.Words.{wordAt}
 use Rattle.host_reading.specs.declared.MachineLent.{MachineLent}
 use Rattle.host_reading.specs.declared.StateLent.{StateLent}
-use Rattle.host_reading.specs.Layout.{rowIn, machineIn, machineFormed, stateWith, stateIn, stateFormed, fitting, machineLent, stateLent}
+use Rattle.host_reading.specs.Layout.{rowIn, leftIn, machineIn, machineFormed, stateWith, stateIn, stateFormed, fitting, machineLent, stateLent}
 
-pub state-from : (words : List ℕ) (m : Machine) → m ≡ machineIn words → (row : ℕ) → row ≡ rowIn (wordAt words 12) → stateWith words m row ≡ stateIn words
+pub state-from : (words : List ℕ) (m : Machine) → m ≡ machineIn words → (row : ℕ) → row ≡ rowIn (wordAt words 12) (wordAt words 20)
+    → (left : ℕ) → left ≡ leftIn (wordAt words 20) → stateWith words m row left ≡ stateIn words
 unfolding stateIn
-state-from words m e row f = rw (e, f)
+state-from words m e row f left g = rw (e, f, g)
 
 module _ (words : List ℕ) (places due : ℕ) where
   pub machine-lent-from : (m : Machine) (fits : Bool) → fits ≡ machineFormed (length words) places due → m ≡ machineIn (fitting fits words) → record { fits = fits; machine = m } ≡ machineLent words places due
   unfolding machineLent
   machine-lent-from m fits f e = rw (e, f)
 
-pub state-lent-from : (words : List ℕ) (places : ℕ) (s : GateState) (fits : Bool) → fits ≡ stateFormed words places → s ≡ stateIn (fitting fits words) → record { fits = fits; state = s } ≡ stateLent words places
+pub state-lent-from : (words : List ℕ) (places : ℕ) (s : GateState) (fits : Bool) → fits ≡ stateFormed (length words) places → s ≡ stateIn (fitting fits words) → record { fits = fits; state = s } ≡ stateLent words places
 unfolding stateLent
 state-lent-from words places s fits f e = rw (e, f)
 
@@ -43,15 +44,15 @@ module _ (words : List ℕ) (places due : ℕ) (r : MachineLent) (e : r ≡ mach
     machine-start = ap (λ (l : MachineLent). l .machine) e ∙ rw machine-fits
 
 module _ (words : List ℕ) (places : ℕ) (r : StateLent) (e : r ≡ stateLent words places) where
-  state-tested : r .fits ≡ stateFormed words places
+  state-tested : r .fits ≡ stateFormed (length words) places
   unfolding stateLent
   state-tested = ap (λ (l : StateLent). l .fits) e
 
-  pub state-misfits : not (r .fits) ≡ true → stateFormed words places ≡ false
+  pub state-misfits : not (r .fits) ≡ true → stateFormed (length words) places ≡ false
   state-misfits n = sym state-tested ∙ not-true _ n
 
   module _ (n : not (r .fits) ≡ false) where
-    pub state-fits : stateFormed words places ≡ true
+    pub state-fits : stateFormed (length words) places ≡ true
     state-fits = sym state-tested ∙ not-false _ n
 
     pub state-start : r .state ≡ stateIn words

@@ -53,16 +53,20 @@ machineFormed words places due = eqb words machineSize && eqb places due
 abbrev pub stateSize : ℕ
 stateSize = 21
 
--- a word above 255 is no row either: it is read as row 255, so that 4 is given in its turn
-abbrev pub rowIn : ℕ → ℕ
-rowIn word = min word 255
-
 -- clocks left are 16 bits
 abbrev pub mostClocksLeft : ℕ
 mostClocksLeft = 65_535
 
--- a gate state of so much: its machine, its row, and the words after them
-module _ (words : List ℕ) (machine : Machine) (row : ℕ) where
+-- A row word above 255 is no row, and clocks left above 65,535 do not fit 16 bits. A state with either is read as one in row 255,
+-- which is refused with 4 whatever else it has, so that 4 is given in its turn.
+abbrev pub rowIn : (row left : ℕ) → ℕ
+rowIn row left = cond (leb row 255 && leb left mostClocksLeft) row 255
+
+abbrev pub leftIn : ℕ → ℕ
+leftIn word = min word mostClocksLeft
+
+-- a gate state of so much: its machine, its row, its clocks left, and the words between
+module _ (words : List ℕ) (machine : Machine) (row left : ℕ) where
   abbrev pub stateWith : GateState
   stateWith =
       record {
@@ -76,15 +80,15 @@ module _ (words : List ℕ) (machine : Machine) (row : ℕ) where
         result = wordAt words 17;
         position = wordAt words 18;
         begun = truth (wordAt words 19);
-        left = wordAt words 20;
+        left = left;
       }
 
 unfoldable pub stateIn : List ℕ → GateState
-stateIn words = stateWith words (machineIn words) (rowIn (wordAt words 12))
+stateIn words = stateWith words (machineIn words) (rowIn (wordAt words 12) (wordAt words 20)) (leftIn (wordAt words 20))
 
--- whether what is lent for a gate state has its form, with one result place
-unfoldable pub stateFormed : List ℕ → (places : ℕ) → Bool
-stateFormed state places = eqb (length state) stateSize && eqb places 1 && leb (wordAt state 20) mostClocksLeft
+-- whether so many words are a gate state's, with one result place
+unfoldable pub stateFormed : (words places : ℕ) → Bool
+stateFormed words places = eqb words stateSize && eqb places 1
 
 -- ---- what a call starts from: the words, or none where what is lent does not fit; a word that is not there counts as 0
 
@@ -98,5 +102,5 @@ machineLent words places due =
 
 unfoldable pub stateLent : List ℕ → (places : ℕ) → StateLent
 stateLent words places =
-    let fits = stateFormed words places in
+    let fits = stateFormed (length words) places in
     record { fits = fits; state = stateIn (fitting fits words) }

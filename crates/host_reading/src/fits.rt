@@ -1,4 +1,6 @@
-// Whether what is lent has the layout's form.
+// Whether what is lent has the layout's lengths.
+use super::MACHINE_WORDS;
+use super::STATE_WORDS;
 ghost use mathlib.Core.Path.{_≡_};
 ghost use Rattle.host_reading.specs.Layout.{machineFormed, stateFormed};
 
@@ -6,16 +8,12 @@ ghost use Rattle.host_reading.specs.Layout.{machineFormed, stateFormed};
 pub fn machine_fits(words: usize, places: usize, due: usize) -> bool
     ensures { λ r. ⌜ r ≡ machineFormed words places due ⌝ }
 {
-    (words == 12) & (places == due)
+    (words == MACHINE_WORDS) & (places == due)
 }
 
-// Whether a gate state has its length, with so many result places, and its clocks left are 16 bits.
-pub fn state_fits(state: &[u32], places: usize) -> bool
-    ensures { λ r. ⌜ r ≡ stateFormed (now (state .entry)) places ⌝ }
+// Whether so many words are a gate state's, with one result place.
+pub fn state_fits(words: usize, places: usize) -> bool
+    ensures { λ r. ⌜ r ≡ stateFormed words places ⌝ }
 {
-    let long = (state.len() == 21) & (places == 1);
-    if !long {
-        return false;
-    }
-    state[20] <= 65535
+    (words == STATE_WORDS) & (places == 1)
 }

@@ -11,7 +11,11 @@ use reading::state_in;
 ghost use mathlib.Core.Path.{_≡_};
 ghost use Rattle.host_reading.specs.Layout.{machineLent, stateLent};
 
-// A machine, and whether what is lent has the layout's form; all 0 where it has not.
+pub const MACHINE_WORDS: usize = 12;
+
+pub const STATE_WORDS: usize = 21;
+
+// A machine, and whether what is lent has the layout's lengths; all 0 where it has not.
 pub struct MachineLent {
     pub fits: bool,
     pub machine: Machine,
@@ -33,14 +37,14 @@ pub fn machine_lent(words: &[u32], places: usize, due: usize) -> MachineLent
     }
     MachineLent {
         fits: false,
-        machine: machine_in(&[0; 12]),
+        machine: machine_in(&[0; MACHINE_WORDS]),
     }
 }
 
 pub fn state_lent(words: &[u32], places: usize) -> StateLent
     ensures { λ r. ⌜ r ≡ stateLent (now (words .entry)) places ⌝ }
 {
-    if state_fits(words, places) {
+    if state_fits(words.len(), places) {
         return StateLent {
             fits: true,
             state: state_in(words),
@@ -48,6 +52,6 @@ pub fn state_lent(words: &[u32], places: usize) -> StateLent
     }
     StateLent {
         fits: false,
-        state: state_in(&[0; 21]),
+        state: state_in(&[0; STATE_WORDS]),
     }
 }

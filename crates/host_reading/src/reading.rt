@@ -5,8 +5,9 @@ use model::Machine;
 ghost use mathlib.Core.Path.{_≡_};
 ghost use Prim.Native.Nat.{_≤_};
 ghost use lib.ListN.{length};
-ghost use Rattle.model.specs.Words.{wordAt};
-ghost use Rattle.host_reading.specs.Layout.{machineSize, stateSize, mostClocksLeft, rowIn, machineIn, stateIn};
+ghost use Rattle.host_reading.specs.Layout.{machineSize, stateSize, rowIn, leftIn, machineIn, stateIn};
+
+const MOST_CLOCKS_LEFT: u32 = 65_535;
 
 pub fn machine_in(words: &[u32]) -> Machine
     requires { ⌜ machineSize ≤ length (now words) ⌝ }
@@ -31,15 +32,29 @@ pub fn machine_in(words: &[u32]) -> Machine
     Machine { regs, flags }
 }
 
-// A word above 255 cannot be a row; it becomes one that is refused too.
-fn row_in(word: u32) -> u8
-    ensures { λ r. ⌜ r ≡ rowIn word ⌝ }
+// Row 255, which is refused, also stands for a row word above 255 and for clocks left above 65,535.
+fn row_in(row: u32, left: u32) -> u8
+    ensures { λ r. ⌜ r ≡ rowIn row left ⌝ }
 {
-    if word <= 255 { word as u8 } else { 255 }
+    if (row <= 255) & (left <= MOST_CLOCKS_LEFT) {
+        row as u8
+    } else {
+        255
+    }
+}
+
+fn left_in(word: u32) -> u16
+    ensures { λ r. ⌜ r ≡ leftIn word ⌝ }
+{
+    if word <= MOST_CLOCKS_LEFT {
+        word as u16
+    } else {
+        MOST_CLOCKS_LEFT as u16
+    }
 }
 
 pub fn state_in(words: &[u32]) -> GateState
-    requires { ⌜ (stateSize ≤ length (now words)) × (wordAt (now words) 20 ≤ mostClocksLeft) ⌝ }
+    requires { ⌜ stateSize ≤ length (now words) ⌝ }
     ensures { λ r. ⌜ r ≡ stateIn (now (words .entry)) ⌝ }
 {
     let m = machine_in(words);
@@ -48,7 +63,7 @@ pub fn state_in(words: &[u32]) -> GateState
     GateState {
         regs,
         flags,
-        row: row_in(words[12]),
+        row: row_in(words[12], words[20]),
         instruction: words[13],
         address: words[14],
         a: words[15],
@@ -56,6 +71,6 @@ pub fn state_in(words: &[u32]) -> GateState
         result: words[17],
         position: words[18],
         begun: words[19] != 0,
-        left: words[20] as u16,
+        left: left_in(words[20]),
     }
 }

@@ -4,20 +4,15 @@ use mathlib.Core.Bool.{cond}
 use mathlib.Core.List.{List, [], _∷_, _++_}
 use lib.Dec.{eqb}
 use lib.ListN.{length}
-use Rattle.model.specs.declared.Flags.{Flags}
+use Rattle.arithmetic.specs.Words.{asNumber}
 use Rattle.model.specs.declared.Machine.{Machine}
 use Rattle.model.specs.declared.GateState.{GateState}
-use Rattle.arithmetic.specs.Words.{asNumber}
+use Rattle.model.specs.Packed.{flagNumbers}
 use Rattle.model.specs.Agreement.{machineOf}
 use Rattle.host_reading.specs.Layout.{registersIn}
 
--- a flag word is written as 0 or 1
-abbrev pub flagWords : Flags → List ℕ
-flagWords flags =
-    asNumber (flags .carry) ∷ asNumber (flags .overflow) ∷ asNumber (flags .negative) ∷ asNumber (flags .zero) ∷ []
-
 unfoldable pub machineWords : Machine → List ℕ
-machineWords m = registersIn (m .regs) ++ flagWords (m .flags)
+machineWords m = registersIn (m .regs) ++ flagNumbers (m .flags)
 
 -- the nine words after the machine's
 unfoldable pub latchWords : GateState → List ℕ

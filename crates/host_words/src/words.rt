@@ -1,10 +1,12 @@
 // The words of a machine and of a gate state.
+use host_reading::MACHINE_WORDS;
+use host_reading::STATE_WORDS;
 use model::GateState;
 use model::Machine;
 ghost use mathlib.Core.Path.{_≡_};
 ghost use Rattle.host_words.specs.Words.{machineWords, latchWords};
 
-pub fn machine_words(m: Machine) -> [u32; 12]
+pub fn machine_words(m: Machine) -> [u32; MACHINE_WORDS]
     ensures { λ r. ⌜ r ≡ machineWords m ⌝ }
 {
     let r = m.regs;
@@ -26,7 +28,7 @@ pub fn machine_words(m: Machine) -> [u32; 12]
 }
 
 // The words of a gate state after its machine's.
-pub fn latch_words(s: GateState) -> [u32; 9]
+pub fn latch_words(s: GateState) -> [u32; STATE_WORDS - MACHINE_WORDS]
     ensures { λ r. ⌜ r ≡ latchWords s ⌝ }
 {
     [

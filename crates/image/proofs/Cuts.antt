@@ -1,4 +1,4 @@
--- Whatever is left of an image once bytes are missing at its end is refused with 8: the proof of the law of `Laws`.
+-- Whatever is left of an image once bytes are missing at its end is refused with 8.
 use Prim.Native.Nat.{ℕ, zero, suc, _+_, _*_, _-_, _^_, _≤_, _<_, min}
 use mathlib.Core.Path.{_≡_, refl, sym, ap, subst, _∙_}
 use mathlib.Core.Bool.{Bool, true, false}
@@ -9,15 +9,16 @@ use lib.Dec.{leb, lit<}
 use lib.ListN.{length, take, drop, length-append, length-take}
 use lib.Seq.{take-append-add}
 use borrow.Author.Tests.{le-leb, lt-leb, eq-eqb}
-use Rattle.model.specs.declared.Machine.{Machine}
 use Rattle.model.specs.declared.Refusal.{Refusal}
 use Rattle.model.specs.declared.Refusal.the-variants.{CutImage, WrongVersion, BadFlag}
 use Rattle.model.specs.declared.Verdict.{Verdict}
 use Rattle.model.specs.declared.Verdict.the-variants.{Accepted, Refused}
 use Rattle.model.specs.Refusals.{demand, _then_, mostWords}
+use Rattle.model.specs.Packed.{flagNumbers}
 use Rattle.image.specs.Bytes.{bytesOf, number, wordBytes, wordsIn, Below}
-use Rattle.image.specs.Format.{Field, fieldBytes, isVersion, versionField, registersField, flagsField, countField, wordsField, endField, wordsPerField, fieldsFor, memoryFields, flagBytes, imageOf}
+use Rattle.image.specs.Format.{Field, fieldBytes, isVersion, versionField, registersField, flagsField, countField, wordsField, endField, wordsPerField, fieldsFor, memoryFields, imageOf}
 use Rattle.image.specs.Reading.{Outcome, refused, _▷_, headerVerdict, fieldVerdict, readField, readMemory, readOf}
+use Rattle.image.specs.Theorems.{Cut}
 use Rattle.image.proofs.BytesLaws.{no-elements, length-bytes, number-bytes, below-drop, length-word-bytes}
 use Rattle.image.proofs.FieldLaws.{length-field, field-goes}
 use Rattle.image.proofs.MemoryLaws.{fields-enough, length-first-bytes, length-more, first-and-more}
@@ -52,7 +53,7 @@ module _ (f : Field) (value rest : List ℕ) (next : List ℕ → List ℕ → O
       (eq-eqb _ _ (number-bytes 2 (length value) (omega arith) ∙ long))
       (lt-leb _ _ h₁)
 
-  pub field-cut : (k : ℕ) → k < length (fieldBytes f value ++ rest) → ((j : ℕ) → j < length rest → next value (take j rest) ≡ refused CutImage)
+  field-cut : (k : ℕ) → k < length (fieldBytes f value ++ rest) → ((j : ℕ) → j < length rest → next value (take j rest) ≡ refused CutImage)
       → readField f (take k (fieldBytes f value ++ rest)) next ≡ refused CutImage
   unfolding readField
   field-cut k h later = go (decLt k 3) (decLt k (3 + f .due))
@@ -100,35 +101,32 @@ memory-cut (suc n) words memory rest next l h b later k q =
 
 -- ---- the image
 
-module _ (version : ℕ) (machine : Machine) (memory : List ℕ) (room : ℕ)
-    (known : isVersion version ≡ true) (eight : length (machine .regs) ≡ 8)
-    (some : 1 ≤ length memory) (most : length memory ≤ mostWords) (memory-below : Below (2 ^ 32) memory) (fits : length memory ≤ room) where
-  count-rule : countField room .rule (bytesOf 4 (length memory)) ≡ Accepted
-  count-rule =
-      let M : ℕ = number (bytesOf 4 (length memory)) in
-      let e : M ≡ length memory = number-bytes 4 (length memory) (omega arith) in
-      let a : leb 1 M ≡ true = le-leb 1 M (omega arith) in
-      let b : leb M mostWords ≡ true = le-leb M mostWords (omega arith) in
-      let c : leb M room ≡ true = le-leb M room (omega arith) in
-      rw (a, b, c)
+count-rule : (memory : List ℕ) (room : ℕ) → 1 ≤ length memory → length memory ≤ mostWords → length memory ≤ room → countField room .rule (bytesOf 4 (length memory)) ≡ Accepted
+count-rule memory room some most fits =
+    let M : ℕ = number (bytesOf 4 (length memory)) in
+    let e : M ≡ length memory = number-bytes 4 (length memory) (omega arith) in
+    let a : leb 1 M ≡ true = le-leb 1 M (omega arith) in
+    let b : leb M mostWords ≡ true = le-leb M mostWords (omega arith) in
+    let c : leb M room ≡ true = le-leb M room (omega arith) in
+    rw (a, b, c)
 
-  version-rule : versionField .rule (version ∷ []) ≡ Accepted
-  unfolding number
-  version-rule =
-      let e : version + 0 ≡ version = omega arith in
-      ap (λ (v : ℕ). demand (isVersion v) WrongVersion) e ∙ ap (λ (t : Bool). demand t WrongVersion) known
+version-rule : (version : ℕ) → isVersion version ≡ true → versionField .rule (version ∷ []) ≡ Accepted
+unfolding number
+version-rule version known =
+    let e : version + 0 ≡ version = omega arith in
+    ap (λ (v : ℕ). demand (isVersion v) WrongVersion) e ∙ ap (λ (t : Bool). demand t WrongVersion) known
 
-  pub cut : (k : ℕ) → k < length (imageOf version machine memory) → readOf (take k (imageOf version machine memory)) room ≡ refused CutImage
-  unfolding readOf imageOf fieldBytes
-  cut k h =
-      let lr : length (wordBytes (machine .regs)) ≡ 32 = length-word-bytes (machine .regs) ∙ ap (λ (n : ℕ). 4 * n) eight in
-      let count : List ℕ = bytesOf 4 (length memory) in
-      let eM : number count ≡ length memory = number-bytes 4 (length memory) (omega arith) in
-      let last : List ℕ → List ℕ → Outcome = endFrom room (version ∷ []) (wordBytes (machine .regs)) (flagBytes (machine .flags)) in
-      field-cut versionField (version ∷ []) _ _ refl (lit< tt) version-rule k h λ k₁ h₁.
-      field-cut registersField (wordBytes (machine .regs)) _ _ lr (lit< tt) refl k₁ h₁ λ k₂ h₂.
-      field-cut flagsField (flagBytes (machine .flags)) _ _ refl (lit< tt) (ap (λ (t : Bool). demand t BadFlag) (flags-fit (machine .flags))) k₂ h₂ λ k₃ h₃.
-      field-cut (countField room) count _ _ (length-bytes 4 (length memory)) (lit< tt) count-rule k₃ h₃ λ k₄ h₄.
-      ap (λ (n : ℕ). readMemory (fieldsFor n) n (take k₄ (memoryFields (fieldsFor (length memory)) memory ++ fieldBytes endField [])) last) eM
-      ∙ memory-cut (fieldsFor (length memory)) (length memory) memory (fieldBytes endField []) last refl (fields-enough (length memory)) memory-below
-      (end-cut _) k₄ h₄
+pub cut : Cut
+unfolding readOf imageOf fieldBytes
+cut version machine memory room known eight some most memory-below fits k h =
+    let lr : length (wordBytes (machine .regs)) ≡ 32 = length-word-bytes (machine .regs) ∙ ap (λ (n : ℕ). 4 * n) eight in
+    let count : List ℕ = bytesOf 4 (length memory) in
+    let eM : number count ≡ length memory = number-bytes 4 (length memory) (omega arith) in
+    let last : List ℕ → List ℕ → Outcome = endFrom room (version ∷ []) (wordBytes (machine .regs)) (flagNumbers (machine .flags)) in
+    field-cut versionField (version ∷ []) _ _ refl (lit< tt) (version-rule version known) k h λ k₁ h₁.
+    field-cut registersField (wordBytes (machine .regs)) _ _ lr (lit< tt) refl k₁ h₁ λ k₂ h₂.
+    field-cut flagsField (flagNumbers (machine .flags)) _ _ refl (lit< tt) (ap (λ (t : Bool). demand t BadFlag) (flags-fit (machine .flags))) k₂ h₂ λ k₃ h₃.
+    field-cut (countField room) count _ _ (length-bytes 4 (length memory)) (lit< tt) (count-rule memory room some most fits) k₃ h₃ λ k₄ h₄.
+    ap (λ (n : ℕ). readMemory (fieldsFor n) n (take k₄ (memoryFields (fieldsFor (length memory)) memory ++ fieldBytes endField [])) last) eM
+    ∙ memory-cut (fieldsFor (length memory)) (length memory) memory (fieldBytes endField []) last refl (fields-enough (length memory)) memory-below
+    (end-cut _) k₄ h₄

@@ -1,5 +1,5 @@
--- What is written is read back, only what the writer can produce is read, and how long an image is: the proofs of `Laws`.
-use Prim.Native.Nat.{ℕ, _+_, _*_, _^_, _≤_, _<_}
+-- What is written is read back, only what the writer can produce is read, and how long an image is.
+use Prim.Native.Nat.{ℕ, _+_, _*_}
 use mathlib.Core.Path.{_≡_, refl, sym, ap, ap₂, _∙_}
 use mathlib.Core.Bool.{Bool, true}
 use mathlib.Core.List.{List, [], _∷_, _++_, append-assoc, append-nil}
@@ -12,12 +12,14 @@ use Rattle.model.specs.declared.Refusal.the-variants.{WrongVersion, BadFlag, Ba
 use Rattle.model.specs.declared.Verdict.{Verdict}
 use Rattle.model.specs.declared.Verdict.the-variants.{Accepted}
 use Rattle.model.specs.Refusals.{demand, _then_, mostWords}
-use Rattle.model.proofs.Verdicts.{demanded}
+use Rattle.model.specs.Packed.{flagNumbers}
+use Rattle.model.proofs.Verdicts.{then-assoc, demanded}
 use Rattle.image.specs.Bytes.{bytesOf, number, wordBytes, wordsIn, Below}
-use Rattle.image.specs.Format.{fieldBytes, isVersion, countFits, versionField, registersField, flagsField, countField, endField, fieldsFor, memoryFields, flagBytes, imageOf}
+use Rattle.image.specs.Format.{fieldBytes, isVersion, countFits, versionField, registersField, flagsField, countField, endField, fieldsFor, memoryFields, imageOf}
 use Rattle.image.specs.Reading.{Outcome, loaded, _▷_, readOf, machineOf}
+use Rattle.image.specs.Theorems.{RoundTrip, OnlyImages, ImageRead, Size}
 use Rattle.image.proofs.BytesLaws.{no-elements, length-bytes, number-bytes, bytes-number, single, length-word-bytes, bytes-of-words}
-use Rattle.image.proofs.Outcomes.{went-on, then-assoc}
+use Rattle.image.proofs.Outcomes.{went-on}
 use Rattle.image.proofs.FieldLaws.{length-field, field-goes, field-taken}
 use Rattle.image.proofs.MemoryLaws.{fields-enough, length-memory, memory-goes, memory-taken}
 use Rattle.image.proofs.Machines.{flags-fit, machine-back, flags-back}
@@ -25,52 +27,37 @@ use Rattle.image.proofs.Stages.{endFrom, memoryFrom, countFrom, flagsFr
 
 -- ---- what was written is read, and what is refused of it
 
-module _ (version : ℕ) (machine : Machine) (memory rest : List ℕ) (room : ℕ)
-    (eight : length (machine .regs) ≡ 8) (registers-below : Below (2 ^ 32) (machine .regs))
-    (few : length memory < 2 ^ 32) (memory-below : Below (2 ^ 32) memory) where
-  -- the verdicts on the version, on M, and on what follows the end field
-  abbrev onVersion : Verdict
-  onVersion = demand (isVersion version) WrongVersion
+pub imageRead : ImageRead
+unfolding readOf imageOf fieldBytes number
+imageRead version machine memory rest room eight registers-below few memory-below =
+    let onVersion : Verdict = demand (isVersion version) WrongVersion in
+    let onCount : Verdict = demand (countFits (length memory)) BadWordCount in
+    let onRoom : Verdict = demand (leb (length memory) room) ShortMemory in
+    let onRest : Verdict = demand (eqb (length rest) 0) TrailingBytes in
+    let lr : length (wordBytes (machine .regs)) ≡ 32 = length-word-bytes (machine .regs) ∙ ap (λ (n : ℕ). 4 * n) eight in
+    let eV : version + 0 ≡ version = omega arith in
+    let M : ℕ = number (bytesOf 4 (length memory)) in
+    let eM : M ≡ length memory = number-bytes 4 (length memory) few in
+    let o : Outcome = loaded version machine memory in
+    let w : Verdict = onCount then onRoom then onRest in
+    field-goes versionField (version ∷ []) _ refl (lit< tt) _ _ onVersion w o (simp append-assoc) (ap (λ (v : ℕ). demand (isVersion v) WrongVersion) eV)
+    (field-goes registersField (wordBytes (machine .regs)) _ lr (lit< tt) _ _ Accepted w o refl refl
+    (field-goes flagsField (flagNumbers (machine .flags)) _ refl (lit< tt) _ _ Accepted w o refl (ap (λ (t : Bool). demand t BadFlag) (flags-fit (machine .flags)))
+    (field-goes (countField room) (bytesOf 4 (length memory)) _ (length-bytes 4 (length memory)) (lit< tt) _ _ (onCount then onRoom) onRest o refl
+    (ap (λ (n : ℕ). demand (countFits n) BadWordCount then demand (leb n room) ShortMemory) eM)
+    (memory-goes (fieldsFor M) M _ memory (fieldBytes endField [] ++ rest) _ _ (ap (λ (n : ℕ). memoryFields (fieldsFor n) memory ++ (fieldBytes endField [] ++ rest)) (sym eM)) (sym eM) (fields-enough M) memory-below
+    (field-goes endField [] rest refl (lit< tt) _ _ Accepted onRest o refl refl
+    (ap₂ (λ (v : ℕ) (m : Machine). onRest ▷ loaded v m memory) eV (machine-back machine eight registers-below))))
+    ∙ ap (λ (v : Verdict). v ▷ o) (then-assoc onCount onRoom onRest))))
 
-  abbrev onCount : Verdict
-  onCount = demand (countFits (length memory)) BadWordCount
-
-  abbrev onRoom : Verdict
-  onRoom = demand (leb (length memory) room) ShortMemory
-
-  abbrev onRest : Verdict
-  onRest = demand (eqb (length rest) 0) TrailingBytes
-
-  pub imageRead : readOf (imageOf version machine memory ++ rest) room ≡ ((onVersion then onCount then onRoom then onRest) ▷ loaded version machine memory)
-  unfolding readOf imageOf fieldBytes number
-  imageRead =
-      let lr : length (wordBytes (machine .regs)) ≡ 32 = length-word-bytes (machine .regs) ∙ ap (λ (n : ℕ). 4 * n) eight in
-      let eV : version + 0 ≡ version = omega arith in
-      let M : ℕ = number (bytesOf 4 (length memory)) in
-      let eM : M ≡ length memory = number-bytes 4 (length memory) few in
-      let o : Outcome = loaded version machine memory in
-      let w : Verdict = onCount then onRoom then onRest in
-      field-goes versionField (version ∷ []) _ refl (lit< tt) _ _ onVersion w o (simp append-assoc) (ap (λ (v : ℕ). demand (isVersion v) WrongVersion) eV)
-      (field-goes registersField (wordBytes (machine .regs)) _ lr (lit< tt) _ _ Accepted w o refl refl
-      (field-goes flagsField (flagBytes (machine .flags)) _ refl (lit< tt) _ _ Accepted w o refl (ap (λ (t : Bool). demand t BadFlag) (flags-fit (machine .flags)))
-      (field-goes (countField room) (bytesOf 4 (length memory)) _ (length-bytes 4 (length memory)) (lit< tt) _ _ (onCount then onRoom) onRest o refl
-      (ap (λ (n : ℕ). demand (countFits n) BadWordCount then demand (leb n room) ShortMemory) eM)
-      (memory-goes (fieldsFor M) M _ memory (fieldBytes endField [] ++ rest) _ _ (ap (λ (n : ℕ). memoryFields (fieldsFor n) memory ++ (fieldBytes endField [] ++ rest)) (sym eM)) (sym eM) (fields-enough M) memory-below
-      (field-goes endField [] rest refl (lit< tt) _ _ Accepted onRest o refl refl
-      (ap₂ (λ (v : ℕ) (m : Machine). onRest ▷ loaded v m memory) eV (machine-back machine eight registers-below))))
-      ∙ ap (λ (v : Verdict). v ▷ o) (then-assoc onCount onRoom onRest))))
-
-module _ (version : ℕ) (machine : Machine) (memory : List ℕ) (room : ℕ)
-    (known : isVersion version ≡ true) (eight : length (machine .regs) ≡ 8) (registers-below : Below (2 ^ 32) (machine .regs))
-    (some : 1 ≤ length memory) (most : length memory ≤ mostWords) (memory-below : Below (2 ^ 32) memory) (fits : length memory ≤ room) where
-  pub roundTrip : readOf (imageOf version machine memory) room ≡ loaded version machine memory
-  roundTrip =
-      let a : leb 1 (length memory) ≡ true = le-leb _ _ some in
-      let b : leb (length memory) mostWords ≡ true = le-leb _ _ most in
-      let c : leb (length memory) room ≡ true = le-leb _ _ fits in
-      ap (λ (bytes : List ℕ). readOf bytes room) (sym (append-nil (imageOf version machine memory)))
-      ∙ imageRead version machine memory [] room eight registers-below (omega arith) memory-below
-      ∙ rw (known, a, b, c)
+pub roundTrip : RoundTrip
+roundTrip version machine memory room known eight registers-below some most memory-below fits =
+    let a : leb 1 (length memory) ≡ true = le-leb _ _ some in
+    let b : leb (length memory) mostWords ≡ true = le-leb _ _ most in
+    let c : leb (length memory) room ≡ true = le-leb _ _ fits in
+    ap (λ (bytes : List ℕ). readOf bytes room) (sym (append-nil (imageOf version machine memory)))
+    ∙ imageRead version machine memory [] room eight registers-below (omega arith) memory-below
+    ∙ rw (known, a, b, c)
 
 -- ---- bytes that are read are the image of what was read
 
@@ -86,7 +73,7 @@ module _ (room version₀ : ℕ) (machine : Machine) (memory : List ℕ) where
   fromCount = fieldBytes (countField (length memory)) (bytesOf 4 (length memory)) ++ fromMemory
 
   abbrev fromFlags : List ℕ
-  fromFlags = fieldBytes flagsField (flagBytes (machine .flags)) ++ fromCount
+  fromFlags = fieldBytes flagsField (flagNumbers (machine .flags)) ++ fromCount
 
   abbrev fromRegisters : List ℕ
   fromRegisters = fieldBytes registersField (wordBytes (machine .regs)) ++ fromFlags
@@ -123,7 +110,7 @@ module _ (room version₀ : ℕ) (machine : Machine) (memory : List ℕ) where
       let f = field-taken flagsField (countFrom room version registers) bytes h e in
       let t = field-taken (countField room) (memoryFrom room version registers (f .value)) (f .rest) (f .rest-below) (f .goes) in
       let z = memory-is version registers (f .value) (t .value) (t .rest) (t .long) (t .value-below) (t .rest-below) (t .goes) in
-      let flags : f .value ≡ flagBytes (machine .flags) = sym (flags-back registers (f .value) (f .long) (demanded _ BadFlag (f .follows))) ∙ ap (λ (m : Machine). flagBytes (m .flags)) (z .3) in (
+      let flags : f .value ≡ flagNumbers (machine .flags) = sym (flags-back registers (f .value) (f .long) (demanded _ BadFlag (f .follows))) ∙ ap (λ (m : Machine). flagNumbers (m .flags)) (z .3) in (
         f .is ∙ ap₂ (λ (x y : List ℕ). fieldBytes flagsField x ++ y) flags (t .is ∙ ap₂ (λ (x y : List ℕ). fieldBytes (countField (length memory)) x ++ y) (z .0) (z .1)),
         z .2,
         ap (λ (m : Machine). m .regs) (z .3),
@@ -136,25 +123,24 @@ module _ (room version₀ : ℕ) (machine : Machine) (memory : List ℕ) where
       let registers : t .value ≡ wordBytes (machine .regs) = sym (bytes-of-words 8 (t .value) (t .long) (t .value-below)) ∙ ap wordBytes (z .2) in
       (t .is ∙ ap₂ (λ (x y : List ℕ). fieldBytes registersField x ++ y) registers (z .0), z .1)
 
-  pub onlyImages : (bytes : List ℕ) → Below 256 bytes → readOf bytes room ≡ loaded version₀ machine memory → bytes ≡ imageOf version₀ machine memory
-  unfolding imageOf
-  onlyImages bytes h e =
-      let t = field-taken versionField (registersFrom room) bytes h (sym (in-stages room bytes) ∙ e) in
-      let z = registers-is (t .value) (t .rest) (t .rest-below) (t .goes) in
-      let version : t .value ≡ version₀ ∷ [] = single (t .value) (t .long) ∙ ap {B = List ℕ} (λ (x : ℕ). x ∷ []) (z .1) in
-      t .is ∙ ap₂ (λ (x y : List ℕ). fieldBytes versionField x ++ y) version (z .0)
+pub onlyImages : OnlyImages
+unfolding imageOf
+onlyImages room version₀ machine memory bytes h e =
+    let t = field-taken versionField (registersFrom room) bytes h (sym (in-stages room bytes) ∙ e) in
+    let z = registers-is room version₀ machine memory (t .value) (t .rest) (t .rest-below) (t .goes) in
+    let version : t .value ≡ version₀ ∷ [] = single (t .value) (t .long) ∙ ap {B = List ℕ} (λ (x : ℕ). x ∷ []) (z .1) in
+    t .is ∙ ap₂ (λ (x y : List ℕ). fieldBytes versionField x ++ y) version (z .0)
 
 -- ---- the size
 
-pub size : (version : ℕ) (machine : Machine) (memory : List ℕ) → length (machine .regs) ≡ 8
-    → length (imageOf version machine memory) ≡ 56 + 4 * length memory + 3 * fieldsFor (length memory)
+pub size : Size
 unfolding imageOf
 size version machine memory eight =
     let n : ℕ = fieldsFor (length memory) in
     let m : List ℕ = memoryFields n memory in
     let f₁ : List ℕ = fieldBytes versionField (version ∷ []) in
     let f₂ : List ℕ = fieldBytes registersField (wordBytes (machine .regs)) in
-    let f₃ : List ℕ = fieldBytes flagsField (flagBytes (machine .flags)) in
+    let f₃ : List ℕ = fieldBytes flagsField (flagNumbers (machine .flags)) in
     let f₄ : List ℕ = fieldBytes (countField (length memory)) (bytesOf 4 (length memory)) in
     let f₅ : List ℕ = fieldBytes endField [] in
     omega (
@@ -167,7 +153,7 @@ size version machine memory eight =
       length-field versionField (version ∷ []),
       length-field registersField (wordBytes (machine .regs)),
       length-word-bytes (machine .regs),
-      length-field flagsField (flagBytes (machine .flags)),
+      length-field flagsField (flagNumbers (machine .flags)),
       length-field (countField (length memory)) (bytesOf 4 (length memory)),
       length-bytes 4 (length memory),
       length-field endField [],

@@ -9,4 +9,3 @@ pub mod Inverse
 pub mod Cuts
 pub mod Loaded
 pub mod TwoCalls
-pub mod Laws

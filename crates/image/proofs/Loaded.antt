@@ -1,20 +1,26 @@
--- What is loaded is a memory that a run takes: the proof of the law of `Laws`.
-use Prim.Native.Nat.{ℕ, zero, suc, _+_, _*_, _-_, _≤_, _<_, min}
-use mathlib.Core.Path.{_≡_, sym, ap, _∙_}
-use mathlib.Core.Bool.{and-eq-true-iff}
+-- What is loaded has the version that the writer writes, and is a memory that a run takes.
+use Prim.Native.Nat.{ℕ, zero, suc, _+_, _*_, _-_, _≤_, min}
+use mathlib.Core.Path.{_≡_, refl, sym, ap, _∙_}
+use mathlib.Core.Bool.{true, and-eq-true-iff}
 use mathlib.Core.List.{List, [], _++_}
 use native.Mathlib.Omega.{arith}
 use lib.Dec.{leb, eqb}
 use lib.ListN.{length, take, drop, length-append}
-use borrow.Author.Tests.{leb-true}
+use lib.Seq.{take-at}
+use borrow.Author.Tests.{leb-true, eqb-true}
 use Rattle.model.specs.declared.Machine.{Machine}
 use Rattle.model.specs.declared.Verdict.the-variants.{Accepted}
-use Rattle.model.specs.declared.Refusal.the-variants.{BadWordCount, TrailingBytes}
+use Rattle.model.specs.declared.Refusal.the-variants.{WrongVersion, BadWordCount, TrailingBytes}
 use Rattle.model.specs.Refusals.{mostWords, demand}
+use Rattle.model.specs.Words.{overlay}
 use Rattle.model.proofs.Verdicts.{demanded, both}
+use Rattle.image.specs.declared.ReadAnswer.{ReadAnswer}
+use Rattle.image.specs.declared.ReadResult.{ReadResult}
 use Rattle.image.specs.Bytes.{number, wordsIn}
-use Rattle.image.specs.Format.{Field, versionField, registersField, flagsField, countField, wordsField, endField, wordsPerField, fieldsFor, countFits}
-use Rattle.image.specs.Reading.{Outcome, loaded, fieldVerdict, readField, readMemory, readOf}
+use Rattle.image.specs.Format.{Field, versionField, registersField, flagsField, countField, wordsField, endField, wordsPerField, fieldsFor, isVersion, countFits}
+use Rattle.image.specs.Reading.{Outcome, loaded, refused, fieldVerdict, readField, readMemory, readOf}
+use Rattle.image.specs.Calls.{readResult, readWords, Reads}
+use Rattle.image.specs.Theorems.{LoadedFits}
 use Rattle.image.proofs.BytesLaws.{length-words}
 use Rattle.image.proofs.FieldLaws.{facts}
 use Rattle.image.proofs.MemoryLaws.{fields-enough}
@@ -38,18 +44,61 @@ module _ {version : ℕ} {machine : Machine} {words : List ℕ} where
       let g = past-words n (count - wordsPerField) _ _ (omega arith) (f .1) in
       (wordsIn k value ++ g .0, g .1, length-append (wordsIn k value) (g .0) ∙ omega (arith, length-words k value, g .2), g .3)
 
-  pub loadedFits : (bytes : List ℕ) (room : ℕ) → readOf bytes room ≡ loaded version machine words → (0 < length words) × (length words ≤ mostWords)
+  -- the version and the count that were loaded are those that the rules asked for
+  ruled : (bytes : List ℕ) (room : ℕ) → readOf bytes room ≡ loaded version machine words → (isVersion version ≡ true) × (countFits (length words) ≡ true)
   unfolding readOf
-  loadedFits bytes room e =
+  ruled bytes room e =
       let v = past versionField _ bytes e in
       let r = past registersField _ _ (v .1) in
       let f = past flagsField _ _ (r .1) in
       let c = past (countField room) _ _ (f .1) in
+      let v₀ : ℕ = number (take 1 (drop 3 bytes)) in
       let M : ℕ = number (take 4 (drop 3 (drop 7 (drop 35 (drop 4 bytes))))) in
-      let fits = and-eq-true-iff (leb 1 M) (leb M mostWords) .0 (demanded (countFits M) BadWordCount (both (demand (countFits M) BadWordCount) _ (c .0) .0)) in
       let m = past-words (fieldsFor M) M _ _ (fields-enough M) (c .1) in
       let d = past endField _ _ (m .3) in
       let k = went-on (demand (eqb (length (drop 3 (m .1))) 0) TrailingBytes) _ (d .1) in
-      let l : m .0 ≡ words = cc (k .1) in
-      let s : length words ≡ M = ap length (sym l) ∙ m .2 in
-      (omega (arith, leb-true 1 M (fits .0)), omega (arith, leb-true M mostWords (fits .1)))
+      let lv : v₀ ≡ version = cc (k .1) in
+      let lm : m .0 ≡ words = cc (k .1) in
+      let s : length words ≡ M = ap length (sym lm) ∙ m .2 in
+      (ap isVersion (sym lv) ∙ demanded (isVersion v₀) WrongVersion (v .0), ap countFits s ∙ demanded (countFits M) BadWordCount (both (demand (countFits M) BadWordCount) _ (c .0) .0))
+
+  -- the writer's version
+  pub version-one : (bytes : List ℕ) (room : ℕ) → readOf bytes room ≡ loaded version machine words → version ≡ 1
+  version-one bytes room e = eqb-true version 1 (ruled bytes room e .0)
+
+pub loadedFits : LoadedFits
+loadedFits room version machine memory bytes e =
+    let fits = and-eq-true-iff (leb 1 (length memory)) (leb (length memory) mostWords) .0 (ruled bytes room e .1) in
+    (leb-true 1 (length memory) (fits .0), leb-true (length memory) mostWords (fits .1))
+
+-- ---- a call that loaded
+
+pub record Loads (bytes memory memory′ : List ℕ) (r : ReadResult) (count : ℕ) : Type 0 where
+  pub version : ℕ
+  pub words : List ℕ
+  pub is : readOf bytes (length memory) ≡ loaded version (r .machine) words
+  pub long : length words ≡ count
+  pub whole : memory′ ≡ overlay words memory
+
+module _ {bytes memory memory′ : List ℕ} {r : ReadResult} {count : ℕ} where
+  pub loads : Reads bytes memory memory′ r → r .answer ≡ ReadAnswer.Loaded count → Loads bytes memory memory′ r count
+  loads h e = go (readOf bytes (length memory)) refl
+    where
+      go : (o : Outcome) → readOf bytes (length memory) ≡ o → Loads bytes memory memory′ r count
+      go (loaded version machine words) is =
+          let k : r ≡ readResult (loaded version machine words) = h .result ∙ ap readResult is in
+          record {
+            version = version;
+            words = words;
+            is = is ∙ ap (λ (x : ReadResult). loaded version (x .machine) words) (sym k);
+            long = cc;
+            whole = h .words ∙ ap (λ (o : Outcome). readWords o memory) is;
+          }
+      go (refused why) is =
+          let k : r ≡ readResult (refused why) = h .result ∙ ap readResult is in
+          let z : _≡_ {A = ℕ} 0 1 = cc in
+          absurd (omega arith)
+
+  -- its words are the memory's first ones
+  pub first-words : (l : Loads bytes memory memory′ r count) → take count memory′ ≡ l .words
+  first-words l = ap (take count) (l .whole) ∙ take-at (l .words) (drop (length (l .words)) memory) count (l .long)

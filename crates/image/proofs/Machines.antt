@@ -4,14 +4,16 @@ use mathlib.Core.Path.{_≡_, refl, sym, ap, _∙_}
 use mathlib.Core.Bool.{Bool, true, false, _&&_, and-eq-true-iff}
 use mathlib.Core.List.{List, [], _∷_}
 use native.Mathlib.Omega.{arith}
-use lib.Dec.{eqb, leb}
+use lib.Dec.{leb}
 use lib.ListN.{length}
-use borrow.Author.Tests.{leb-true, eqb-true, eqb-false}
+use borrow.Author.Tests.{leb-true}
 use Rattle.arithmetic.specs.Words.{asNumber}
+use Rattle.arithmetic.proofs.Sums.{digit-bit, bit-digit}
 use Rattle.model.specs.declared.Flags.{Flags}
 use Rattle.model.specs.declared.Machine.{Machine}
+use Rattle.model.specs.Packed.{flagNumbers}
 use Rattle.image.specs.Bytes.{wordBytes, wordsIn, Below}
-use Rattle.image.specs.Format.{flagBytes, flagsFit}
+use Rattle.image.specs.Format.{flagsFit}
 use Rattle.image.specs.Reading.{machineOf}
 use Rattle.image.proofs.BytesLaws.{words-of-bytes}
 
@@ -19,28 +21,17 @@ flag-fits : (t : Bool) → leb (asNumber t) 1 ≡ true
 flag-fits true = refl
 flag-fits false = refl
 
-flag-back : (t : Bool) → eqb (asNumber t) 1 ≡ t
-flag-back true = refl
-flag-back false = refl
-
-pub flags-fit : (f : Flags) → flagsFit (flagBytes f) ≡ true
+pub flags-fit : (f : Flags) → flagsFit (flagNumbers f) ≡ true
 flags-fit f = rw (flag-fits (f .carry), flag-fits (f .overflow), flag-fits (f .negative), flag-fits (f .zero))
 
-pub machine-back : (m : Machine) → length (m .regs) ≡ 8 → Below (2 ^ 32) (m .regs) → machineOf (wordBytes (m .regs)) (flagBytes (m .flags)) ≡ m
+pub machine-back : (m : Machine) → length (m .regs) ≡ 8 → Below (2 ^ 32) (m .regs) → machineOf (wordBytes (m .regs)) (flagNumbers (m .flags)) ≡ m
 machine-back m l h =
     let e : wordsIn 8 (wordBytes (m .regs)) ≡ m .regs = ap (λ (n : ℕ). wordsIn n (wordBytes (m .regs))) (sym l) ∙ words-of-bytes (m .regs) h in
     let f : Flags = m .flags in
     λ i. record {
       regs = e i;
-      flags = record { carry = flag-back (f .carry) i; overflow = flag-back (f .overflow) i; negative = flag-back (f .negative) i; zero = flag-back (f .zero) i };
+      flags = record { carry = digit-bit (f .carry) refl i; overflow = digit-bit (f .overflow) refl i; negative = digit-bit (f .negative) refl i; zero = digit-bit (f .zero) refl i };
     }
-
-byte-back : (b : ℕ) → leb b 1 ≡ true → asNumber (eqb b 1) ≡ b
-byte-back b h = go (eqb b 1) refl
-  where
-    go : (t : Bool) → eqb b 1 ≡ t → asNumber t ≡ b
-    go true e = omega (arith, eqb-true b 1 e)
-    go false e = omega (arith, leb-true b 1 h, eqb-false b 1 e)
 
 four-back : (a b c d : Bool) → (a && b && c && d) ≡ true → (a ≡ true) × (b ≡ true) × (c ≡ true) × (d ≡ true)
 four-back a b c d e =
@@ -50,13 +41,13 @@ four-back a b c d e =
     (r .0, r .1, q .1, p .1)
 
 -- the flags that bytes hold, as bytes, are the bytes
-pub flags-back : (registers l : List ℕ) → length l ≡ 4 → flagsFit l ≡ true → flagBytes (machineOf registers l .flags) ≡ l
+pub flags-back : (registers l : List ℕ) → length l ≡ 4 → flagsFit l ≡ true → flagNumbers (machineOf registers l .flags) ≡ l
 flags-back registers (a ∷ b ∷ c ∷ d ∷ []) e h =
     let f = four-back (leb a 1) (leb b 1) (leb c 1) (leb d 1) h in
-    let p₀ = byte-back a (f .0) in
-    let p₁ = byte-back b (f .1) in
-    let p₂ = byte-back c (f .2) in
-    let p₃ = byte-back d (f .3) in
+    let p₀ = bit-digit a (leb-true a 1 (f .0)) in
+    let p₁ = bit-digit b (leb-true b 1 (f .1)) in
+    let p₂ = bit-digit c (leb-true c 1 (f .2)) in
+    let p₃ = bit-digit d (leb-true d 1 (f .3)) in
     λ i. p₀ i ∷ p₁ i ∷ p₂ i ∷ p₃ i ∷ []
 flags-back registers [] e h = absurd (omega arith)
 flags-back registers (a ∷ []) e h = absurd (omega arith)

@@ -11,6 +11,7 @@ use Rattle.model.specs.declared.Verdict.the-variants.{Accepted}
 use Rattle.image.specs.Bytes.{wordBytes, wordsIn, Below}
 use Rattle.image.specs.Format.{wordsField, wordsPerField, fieldBytes, fieldsFor, spanOf, memoryFields}
 use Rattle.image.specs.Reading.{Outcome, loaded, readMemory}
+use Rattle.image.specs.Theorems.{LastField}
 use Rattle.image.proofs.BytesLaws.{no-elements, below-take, below-drop, length-word-bytes, length-words, words-of-bytes, bytes-of-words}
 use Rattle.image.proofs.FieldLaws.{length-field, field-goes, field-taken}
 
@@ -18,7 +19,7 @@ pub fields-enough : (words : ℕ) → words ≤ 1024 * fieldsFor words
 unfolding fieldsFor
 fields-enough words = omega arith
 
-pub lastField : (words : ℕ) → 1 ≤ words → (1024 * fieldsFor words < words + 1024) × (words ≤ 1024 * fieldsFor words)
+pub lastField : LastField
 unfolding fieldsFor
 lastField words h = (omega arith, omega arith)
 

@@ -1,27 +1,26 @@
--- What the writer wrote, the reader reads back: the proof of the law of `Laws` on the two calls.
-use Prim.Native.Nat.{ℕ, _^_, _≤_, _<_}
-use mathlib.Core.Path.{_≡_, refl, ap, ap₂, _∙_}
+-- What the writer wrote, the reader reads back, and what the reader loaded, the writer writes back.
+use Prim.Native.Nat.{ℕ, _≤_, _<_}
+use mathlib.Core.Path.{_≡_, refl, sym, ap, ap₂, _∙_}
+use mathlib.Core.Bool.{true}
 use mathlib.Core.List.{List}
 use native.Mathlib.Omega.{arith}
-use lib.Dec.{leb}
+use lib.Dec.{ltb, leb}
 use lib.ListN.{length, take, drop}
 use lib.Seq.{take-at}
-use Rattle.model.specs.declared.Machine.{Machine}
+use borrow.Author.Tests.{lt-ltb, le-leb}
 use Rattle.model.specs.declared.Refusal.the-variants.{ShortOutput}
 use Rattle.model.specs.declared.Verdict.{Verdict}
 use Rattle.model.specs.declared.Verdict.the-variants.{Accepted, Refused}
 use Rattle.model.specs.Refusals.{demand, memoryFits, mostWords}
-use Rattle.model.specs.Journal.{overlay}
-use Rattle.model.proofs.Verdicts.{both}
+use Rattle.model.specs.Words.{overlay}
+use Rattle.model.proofs.Verdicts.{both, memory-bounds}
 use Rattle.image.specs.declared.WriteResult.{WriteResult}
-use Rattle.image.specs.declared.ReadAnswer.{ReadAnswer}
-use Rattle.image.specs.declared.ReadResult.{ReadResult}
-use Rattle.image.specs.Bytes.{Below}
 use Rattle.image.specs.Format.{imageOf}
 use Rattle.image.specs.Reading.{Outcome, loaded, readOf}
-use Rattle.image.specs.Calls.{writeVerdict, writeResult, writeBytes, Writes, readResult, readWords, Reads}
-use Rattle.image.proofs.Outcomes.{memory-bounds}
-use Rattle.image.proofs.Inverse.{roundTrip}
+use Rattle.image.specs.Calls.{writeVerdict, writeResult, writeBytes, readResult, readWords}
+use Rattle.image.specs.Theorems.{ReadBack, WriteBack}
+use Rattle.image.proofs.Inverse.{roundTrip, onlyImages}
+use Rattle.image.proofs.Loaded.{loadedFits, version-one, loads, first-words}
 
 written-accepted : (v : Verdict) (image : List ℕ) (n : ℕ) → WriteResult.Written n ≡ writeResult v image → (v ≡ Accepted) × (n ≡ length image)
 written-accepted Accepted image n e = (refl, cc)
@@ -31,10 +30,7 @@ write-bounds : (memory image out : List ℕ) → writeVerdict memory image out �
 unfolding writeVerdict
 write-bounds memory image out e = memory-bounds memory (both (memoryFits memory) (demand (leb (length image) (length out)) ShortOutput) e .0)
 
-pub readBack : (memory : List ℕ) (machine : Machine) (out out′ : List ℕ) (n : ℕ) (room room′ : List ℕ) (r : ReadResult)
-    → length (machine .regs) ≡ 8 → Below (2 ^ 32) (machine .regs) → Below (2 ^ 32) memory
-    → Writes memory machine out out′ (WriteResult.Written n) → length memory ≤ length room → Reads (take n out′) room room′ r
-    → (r ≡ record { answer = ReadAnswer.Loaded (length memory); machine = machine }) × (room′ ≡ overlay memory room)
+pub readBack : ReadBack
 readBack memory machine out out′ n room room′ r eight hr hm w h reads =
     let image : List ℕ = imageOf 1 machine memory in
     let f = written-accepted (writeVerdict memory image out) image n (w .result) in
@@ -44,3 +40,25 @@ readBack memory machine out out′ n room room′ r eight hr hm w h reads =
     let e : readOf (take n out′) (length room) ≡ loaded 1 machine memory =
     ap (λ (x : List ℕ). readOf x (length room)) t ∙ roundTrip 1 machine memory (length room) refl eight hr (omega (arith, b .0)) (b .1) hm h in
     (reads .result ∙ ap readResult e, reads .words ∙ ap (λ (x : Outcome). readWords x room) e)
+
+-- a memory and an output that the writer takes
+takes : (memory image out : List ℕ) → 0 < length memory → length memory ≤ mostWords → length image ≤ length out → writeVerdict memory image out ≡ Accepted
+unfolding writeVerdict
+takes memory image out some most room =
+    let a : ltb 0 (length memory) ≡ true = lt-ltb _ _ some in
+    let b : leb (length memory) mostWords ≡ true = le-leb _ _ most in
+    let c : leb (length image) (length out) ≡ true = le-leb _ _ room in
+    rw (a, b, c)
+
+pub writeBack : WriteBack
+writeBack bytes room room′ r n out out′ w below reads e enough writes =
+    let l = loads reads e in
+    let first : take n room′ ≡ l .words = first-words l in
+    let fits = loadedFits (length room) (l .version) (r .machine) (l .words) bytes (l .is) in
+    let image : bytes ≡ imageOf 1 (r .machine) (take n room′) =
+    onlyImages (length room) (l .version) (r .machine) (l .words) bytes below (l .is)
+    ∙ ap₂ (λ (version : ℕ) (words : List ℕ). imageOf version (r .machine) words) (version-one bytes (length room) (l .is)) (sym first) in
+    let v : writeVerdict (take n room′) bytes out ≡ Accepted =
+    takes (take n room′) bytes out (omega (arith, ap length first, fits .0)) (omega (arith, ap length first, fits .1)) enough in
+    let k : writeVerdict (take n room′) (imageOf 1 (r .machine) (take n room′)) out ≡ Accepted = ap (λ (x : List ℕ). writeVerdict (take n room′) x out) (sym image) ∙ v in
+    (writes .result ∙ ap₂ writeResult k (sym image), writes .bytes ∙ ap₂ (λ (x : Verdict) (y : List ℕ). writeBytes x y out) k (sym image))

@@ -2,7 +2,6 @@
 -- afterwards. Document 01, "Image" and "Why a call is turned down".
 use Prim.Native.Nat.{ℕ}
 use mathlib.Core.Path.{_≡_}
-use mathlib.Core.Bool.{false}
 use mathlib.Core.List.{List}
 use lib.Dec.{leb}
 use lib.ListN.{length, replicate}
@@ -11,7 +10,8 @@ use Rattle.model.specs.declared.Refusal.the-variants.{ShortOutput}
 use Rattle.model.specs.declared.Verdict.{Verdict}
 use Rattle.model.specs.declared.Verdict.the-variants.{Accepted, Refused}
 use Rattle.model.specs.Refusals.{demand, _then_, memoryFits, refusalNumber, verdictNumber}
-use Rattle.model.specs.Journal.{overlay}
+use Rattle.model.specs.Words.{overlay}
+use Rattle.model.specs.Packed.{noFlags}
 use Rattle.image.specs.declared.WriteResult.{WriteResult}
 use Rattle.image.specs.declared.ReadAnswer.{ReadAnswer}
 use Rattle.image.specs.declared.ReadResult.{ReadResult}
@@ -37,16 +37,26 @@ abbrev pub writeNumber : WriteResult → ℕ
 writeNumber (WriteResult.Written size) = 0
 writeNumber (WriteResult.Refused why) = refusalNumber why
 
+-- how many bytes were written: none by a refused write
+abbrev pub verdictSize : Verdict → (image : List ℕ) → ℕ
+verdictSize Accepted image = length image
+verdictSize (Refused why) image = 0
+
+abbrev pub writeSize : WriteResult → ℕ
+writeSize (WriteResult.Written size) = size
+writeSize (WriteResult.Refused why) = 0
+
 pub record Writes (memory : List ℕ) (machine : Machine) (out out′ : List ℕ) (r : WriteResult) : Type 0 where
   pub result : r ≡ writeResult (writeVerdict memory (imageOf 1 machine memory) out) (imageOf 1 machine memory)
   pub bytes : out′ ≡ writeBytes (writeVerdict memory (imageOf 1 machine memory) out) (imageOf 1 machine memory) out
   pub number : writeNumber r ≡ verdictNumber (writeVerdict memory (imageOf 1 machine memory) out)
+  pub size : writeSize r ≡ verdictSize (writeVerdict memory (imageOf 1 machine memory) out) (imageOf 1 machine memory)
 
 -- ---- the reader
 
 -- a refused read returns registers 0 and flags false
 abbrev pub clearedMachine : Machine
-clearedMachine = record { regs = replicate 8 0; flags = record { carry = false; overflow = false; negative = false; zero = false } }
+clearedMachine = record { regs = replicate 8 0; flags = noFlags }
 
 abbrev pub readResult : Outcome → ReadResult
 readResult (loaded version machine words) = record { answer = ReadAnswer.Loaded (length words); machine = machine }

@@ -1,16 +1,15 @@
 -- What an image is: its fields, what their values must be (11 to 14), and its bytes. Document 01, "Image" and "Why a call is
 -- turned down".
-use Prim.Native.Nat.{ℕ, zero, suc, _+_, _*_, _/_}
+use Prim.Native.Nat.{ℕ, zero, suc, _+_, _-_, _*_, _/_}
 use mathlib.Core.Bool.{Bool, _&&_}
 use mathlib.Core.List.{List, [], _∷_, _++_}
 use lib.Dec.{eqb, leb}
 use lib.ListN.{length, getD, take, drop}
-use Rattle.arithmetic.specs.Words.{asNumber}
-use Rattle.model.specs.declared.Flags.{Flags}
 use Rattle.model.specs.declared.Machine.{Machine}
 use Rattle.model.specs.declared.Refusal.the-variants.{WrongVersion, BadFlag, BadWordCount, ShortMemory}
 use Rattle.model.specs.declared.Verdict.{Verdict}
 use Rattle.model.specs.declared.Verdict.the-variants.{Accepted}
+use Rattle.model.specs.Packed.{flagNumbers}
 use Rattle.model.specs.Refusals.{demand, _then_, mostWords}
 use Rattle.image.specs.Bytes.{bytesOf, number, wordBytes}
 
@@ -72,7 +71,7 @@ wordsPerField = 1024
 
 -- how many fields so many words take
 unfoldable pub fieldsFor : ℕ → ℕ
-fieldsFor words = (words + 1023) / wordsPerField
+fieldsFor words = (words + (wordsPerField - 1)) / wordsPerField
 
 -- how many bytes so many words take, with the headers of their fields
 abbrev pub spanOf : ℕ → ℕ
@@ -87,15 +86,11 @@ memoryFields (suc n) words =
 
 -- ---- the image
 
--- C, V, N, Z
-abbrev pub flagBytes : Flags → List ℕ
-flagBytes flags = asNumber (flags .carry) ∷ asNumber (flags .overflow) ∷ asNumber (flags .negative) ∷ asNumber (flags .zero) ∷ []
-
 unfoldable pub imageOf : (version : ℕ) → Machine → (memory : List ℕ) → List ℕ
 imageOf version machine memory =
     fieldBytes versionField (version ∷ [])
     ++ (fieldBytes registersField (wordBytes (machine .regs))
-    ++ (fieldBytes flagsField (flagBytes (machine .flags))
+    ++ (fieldBytes flagsField (flagNumbers (machine .flags))
     ++ (fieldBytes (countField (length memory)) (bytesOf 4 (length memory))
     ++ (memoryFields (fieldsFor (length memory)) memory
     ++ fieldBytes endField []))))

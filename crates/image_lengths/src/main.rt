@@ -1,66 +1,17 @@
 // Writes and reads images at the borders of their fields, and meets every refusal of the writer and the reader but 2, whose
 // memory is too large for a program's stack. A line a case: its name, words, bytes, the paper's number (0: carried out),
 // whether what was lent is afterwards what it must be, and a checksum of the bytes.
-use image::ReadAnswer;
-use image::WriteResult;
+mod lists;
+mod parts;
+
 use libc::STDOUT_FILENO;
-use model::Flags;
-use model::Machine;
-use refusals::refusal_number;
-
-fn machine() -> Machine {
-    let flags = Flags {
-        carry: true,
-        overflow: false,
-        negative: true,
-        zero: false,
-    };
-    Machine {
-        regs: [1, 2, 3, 4, 5, 6, 7, 0xFFFF_FFFF],
-        flags,
-    }
-}
-
-fn word(i: usize, words: usize) -> u32 {
-    if i < words {
-        0xABCD_0000 + (i % 65_536) as u32
-    } else {
-        0
-    }
-}
-
-// So many words that all differ, and then zeros.
-fn fill(memory: &mut [u32], words: usize) {
-    let mut i = 0;
-    while i < memory.len() {
-        memory[i] = word(i, words);
-        i += 1;
-    }
-}
-
-fn equal(a: &[u32], b: &[u32]) -> bool {
-    if a.len() != b.len() {
-        return false;
-    }
-    let mut i = 0;
-    while i < a.len() {
-        if a[i] != b[i] {
-            return false;
-        }
-        i += 1;
-    }
-    true
-}
-
-fn checksum(bytes: &[u8]) -> u32 {
-    let mut sum: u32 = 0;
-    let mut i = 0;
-    while i < bytes.len() {
-        sum = (31 * sum + bytes[i] as u32) % 65_521;
-        i += 1;
-    }
-    sum
-}
+use lists::checksum;
+use lists::equal;
+use lists::fill;
+use parts::read_part;
+use parts::size_of;
+use parts::write_number;
+use parts::write_part;
 
 fn column(n: u64) {
     io::write_all(STDOUT_FILENO, b" ");
@@ -75,48 +26,6 @@ fn show(name: &[u8], words: usize, size: usize, number: u64, right: bool, bytes:
     column(right as u64);
     column(checksum(bytes) as u64);
     io::write_all(STDOUT_FILENO, b"\n");
-}
-
-// How many bytes were written.
-fn size_of(result: WriteResult) -> usize {
-    match result {
-        WriteResult::Written(size) => size,
-        WriteResult::Refused(_) => 0,
-    }
-}
-
-fn write_number(result: WriteResult) -> u64 {
-    match result {
-        WriteResult::Written(_) => 0,
-        WriteResult::Refused(why) => refusal_number(why) as u64,
-    }
-}
-
-// Writes the first words of a memory to the first bytes of an output.
-fn write_part(memory: &[u32], words: usize, bytes: &mut [u8], room: usize) -> WriteResult {
-    if memory.len() < words {
-        return WriteResult::Written(0);
-    }
-    if bytes.len() < room {
-        return WriteResult::Written(0);
-    }
-    image_writer::write(&memory[0..words], machine(), &mut bytes[0..room])
-}
-
-// Reads the first bytes of an image to the first words of a memory.
-fn read_part(bytes: &[u8], size: usize, memory: &mut [u32], room: usize) -> u64 {
-    if bytes.len() < size {
-        return 99;
-    }
-    if memory.len() < room {
-        return 99;
-    }
-    let result = image_reader::read(&bytes[0..size], &mut memory[0..room]);
-    let answer = result.answer;
-    match answer {
-        ReadAnswer::Loaded(_) => 0,
-        ReadAnswer::Refused(why) => refusal_number(why) as u64,
-    }
 }
 
 fn put(bytes: &mut [u8], at: usize, byte: u8) {

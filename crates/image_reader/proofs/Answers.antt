@@ -15,14 +15,14 @@ use Rattle.model.specs.declared.Verdict.{Verdict}
 use Rattle.model.specs.declared.Verdict.the-variants.{Accepted, Refused}
 use Rattle.model.specs.Refusals.{demand, _then_, mostWords}
 use Rattle.model.proofs.Verdicts.{demanded, both}
+use Rattle.model.proofs.Stores.{overlaid}
 use Rattle.image.specs.declared.ReadAnswer.{ReadAnswer}
 use Rattle.image.specs.Format.{versionField, registersField, flagsField, countField, endField, countFits, fieldsFor, spanOf}
 use Rattle.image.specs.Reading.{Outcome, loaded, refused, _▷_, headerVerdict, fieldVerdict, readOf}
 use Rattle.image.specs.Calls.{clearedMachine, readResult, readWords, outcomeNumber, outcomeCount, readNumber, readCount, Reads}
 use Rattle.image.proofs.MemoryLaws.{fields-enough}
-use Rattle.model.proofs.Stores.{overlaid}
-use Rattle.image_reader.specs.Layout.{versionIn, countIn, machineIn, memoryIn, wordsOf, headVerdict, memoryVerdict, endVerdict, tailVerdict, imageVerdict}
-use Rattle.image_reader.proofs.Passes.{passes, length-memory-in}
+use Rattle.image_reader.specs.Layout.{countIn, machineIn, memoryIn, headVerdict, memoryVerdict, endVerdict, tailVerdict, imageVerdict}
+use Rattle.image_reader.proofs.Passes.{versionIn, wordsOf, passes, length-memory-in}
 
 -- what an accepted head shows of the word count
 pub head-accepted : (bytes : List ℕ) (room : ℕ) → headVerdict bytes room ≡ Accepted → (countIn bytes ≤ mostWords) × (countIn bytes ≤ room)

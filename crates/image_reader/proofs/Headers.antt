@@ -13,6 +13,7 @@ use Rattle.model.specs.declared.Refusal.the-variants.{CutImage, WrongTag, Wrong
 use Rattle.model.specs.declared.Verdict.{Verdict}
 use Rattle.model.specs.declared.Verdict.the-variants.{Accepted, Refused}
 use Rattle.model.specs.Refusals.{demand, _then_}
+use Rattle.model.proofs.Verdicts.{then-accepted}
 use Rattle.image.specs.Bytes.{number}
 use Rattle.image.specs.Format.{Field, versionField, registersField, flagsField, countField, isVersion, flagsFit, countFits}
 use Rattle.image.specs.Reading.{headerVerdict, fieldVerdict}
@@ -72,11 +73,9 @@ with-rule f bytes e p q = e ∙ ap₂ (λ (x y : Verdict). x then y) p q
 -- a field with any value
 pub without-rule : (f : Field) (bytes : List ℕ) → ((value : List ℕ) → f .rule value ≡ Accepted) → headerVerdict (f .tag) (f .due) bytes ≡ fieldVerdict f bytes
 unfolding fieldVerdict
-without-rule f bytes any = alone (headerVerdict (f .tag) (f .due) bytes) (any (take (f .due) (drop 3 bytes)))
-  where
-    alone : (v : Verdict) {w : Verdict} → w ≡ Accepted → v ≡ (v then w)
-    alone Accepted e = sym e
-    alone (Refused why) e = refl
+without-rule f bytes any =
+    let header = headerVerdict (f .tag) (f .due) bytes in
+    sym (ap (λ (v : Verdict). header then v) (any (take (f .due) (drop 3 bytes))) ∙ then-accepted header)
 
 -- ---- the values of the head's fields, by what the code tests
 

@@ -10,15 +10,23 @@ use Rattle.model.specs.declared.Machine.{Machine}
 use Rattle.model.specs.declared.Refusal.the-variants.{TrailingBytes}
 use Rattle.model.specs.declared.Verdict.{Verdict}
 use Rattle.model.specs.Refusals.{demand, _then_}
+use Rattle.model.proofs.Verdicts.{then-assoc}
 use Rattle.image.specs.Bytes.{number, wordsIn}
 use Rattle.image.specs.Format.{Field, versionField, registersField, flagsField, countField, wordsField, endField, wordsPerField, fieldsFor, spanOf}
 use Rattle.image.specs.Reading.{Outcome, loaded, _▷_, fieldVerdict, readField, readMemory, readOf, machineOf}
 use Rattle.image.proofs.BytesLaws.{length-words}
-use Rattle.image.proofs.Outcomes.{joined, then-assoc}
+use Rattle.image.proofs.Outcomes.{joined}
 use Rattle.image.proofs.MemoryLaws.{fields-enough}
 use Rattle.image.proofs.Stages.{endFrom, memoryFrom, countFrom, flagsFrom, registersFrom, in-stages}
-use Rattle.image_reader.specs.Layout.{versionIn, countIn, machineIn, memoryIn, wordsOf, headVerdict, memoryVerdict, endVerdict, tailVerdict, imageVerdict}
+use Rattle.image_reader.specs.Layout.{countIn, machineIn, memoryIn, headVerdict, memoryVerdict, endVerdict, tailVerdict, imageVerdict}
 use Rattle.image_reader.proofs.Places.{words-take, machine-take}
+
+-- the version and the words of an image, by place
+abbrev pub versionIn : List ℕ → ℕ
+versionIn bytes = number (take 1 (drop 3 bytes))
+
+abbrev pub wordsOf : List ℕ → List ℕ
+wordsOf bytes = memoryIn (fieldsFor (countIn bytes)) (countIn bytes) (drop 53 bytes)
 
 -- a field that starts at a place, and what follows it
 read-at : (f : Field) (at : ℕ) (bytes : List ℕ) (next : List ℕ → List ℕ → Outcome) (w : Verdict) (o : Outcome)

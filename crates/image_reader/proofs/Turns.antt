@@ -13,10 +13,10 @@ use Rattle.model.specs.declared.Refusal.the-variants.{TrailingBytes}
 use Rattle.model.specs.declared.Verdict.{Verdict}
 use Rattle.model.specs.declared.Verdict.the-variants.{Accepted, Refused}
 use Rattle.model.specs.Refusals.{demand, _then_}
+use Rattle.model.proofs.Verdicts.{then-assoc}
 use Rattle.image.specs.Bytes.{wordsIn}
 use Rattle.image.specs.Format.{wordsField, endField, wordsPerField, fieldsFor, spanOf}
 use Rattle.image.specs.Reading.{headerVerdict, fieldVerdict}
-use Rattle.image.proofs.Outcomes.{then-assoc}
 use Rattle.image.proofs.MemoryLaws.{one-field-less, span-step}
 use Rattle.image_reader.specs.Layout.{memoryIn, memoryVerdict, endVerdict, tailVerdict}
 use Rattle.image_reader.proofs.Headers.{without-rule, nothing-follows}

@@ -26,8 +26,12 @@ pub record PairAt (bytes : List ℕ) (at r : ℕ) : Type 0 where
 
 -- ---- what is there
 
-abbrev pub versionIn : List ℕ → ℕ
-versionIn bytes = number (take 1 (drop 3 bytes))
+-- Where the first fields begin, and their values, each 3 bytes further on:
+--     version      0, value of 1 byte at 3
+--     registers    4, value of 32 bytes at 7
+--     flags        39, value of 4 bytes at 42
+--     M            46, value of 4 bytes at 49
+--     words        53, the first field of words
 
 abbrev pub machineIn : List ℕ → Machine
 machineIn bytes = machineOf (drop 7 bytes) (drop 42 bytes)
@@ -40,9 +44,6 @@ unfoldable pub memoryIn : (fields words : ℕ) → List ℕ → List ℕ
 memoryIn zero words bytes = []
 memoryIn (suc n) words bytes =
     wordsIn (min wordsPerField words) (drop 3 bytes) ++ memoryIn n (words - wordsPerField) (drop (3 + 4 * min wordsPerField words) bytes)
-
-abbrev pub wordsOf : List ℕ → List ℕ
-wordsOf bytes = memoryIn (fieldsFor (countIn bytes)) (countIn bytes) (drop 53 bytes)
 
 -- ---- whether it is in order
 

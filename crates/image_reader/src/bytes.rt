@@ -47,7 +47,7 @@ fn word_in(bytes: &[u8], at: usize) -> u32
 // `count` words, stored from `from` on.
 pub fn get_words(bytes: &[u8], at: usize, out: &mut [u32], from: usize, count: usize)
     requires { ⌜ (at + 4 * count ≤ length (now bytes)) × (from + count ≤ length (now out)) ⌝ }
-    ensures { λ r. ⌜ now (out .exit) ≡ sets (now (out .entry)) from (wordsIn count (drop at (now (bytes .entry)))) ⌝ }
+    ensures { λ _. ⌜ now (out .exit) ≡ sets (now (out .entry)) from (wordsIn count (drop at (now (bytes .entry)))) ⌝ }
 {
     let mut i = 0;
     while i < count {

@@ -4,6 +4,7 @@ use super::bytes::pair_at;
 use image::words_in_field;
 use model::Refusal;
 use model::Verdict;
+use refusals::MOST_WORDS;
 use refusals::demand;
 use refusals::then;
 ghost use mathlib.Core.Path.{_≡_};
@@ -13,8 +14,6 @@ ghost use Rattle.model.specs.Refusals.{mostWords};
 ghost use Rattle.image.specs.Format.{versionField, flagsField, countField};
 ghost use Rattle.image.specs.Reading.{headerVerdict, fieldVerdict};
 ghost use Rattle.image_reader.specs.Layout.{countIn, headVerdict, tailVerdict, imageVerdict};
-
-const MOST_WORDS: u32 = 16_777_216;
 
 // A field from a place on, but for its value: header cut, tag, length, value cut.
 fn header_verdict(bytes: &[u8], at: usize, tag: u32, due: u32) -> Verdict
@@ -67,9 +66,9 @@ fn count_verdict(bytes: &[u8], room: usize) -> Verdict
     ensures { λ r. ⌜ r ≡ fieldVerdict (countField room) (drop 46 (now (bytes .entry))) ⌝ }
 {
     let header = header_verdict(bytes, 46, 4, 4);
-    let words = word_count(bytes);
+    let words = word_count(bytes) as usize;
     let possible = (1 <= words) & (words <= MOST_WORDS);
-    let held = words as usize <= room;
+    let held = words <= room;
     let value = then(
         demand(possible, Refusal::BadWordCount),
         demand(held, Refusal::ShortMemory),

@@ -44,7 +44,7 @@ pub fn machine_at(bytes: &[u8]) -> Machine
 
 pub fn load_memory(bytes: &[u8], memory: &mut [u32], words: usize)
     requires { ⌜ (53 + spanOf words ≤ length (now bytes)) × (words ≤ length (now memory)) ⌝ }
-    ensures { λ r. ⌜ now (memory .exit) ≡ sets (now (memory .entry)) 0 (memoryIn (fieldsFor words) words (drop 53 (now (bytes .entry)))) ⌝ }
+    ensures { λ _. ⌜ now (memory .exit) ≡ sets (now (memory .entry)) 0 (memoryIn (fieldsFor words) words (drop 53 (now (bytes .entry)))) ⌝ }
 {
     let mut at = 53;
     let mut from = 0;

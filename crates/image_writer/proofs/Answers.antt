@@ -13,10 +13,10 @@ use Rattle.model.specs.declared.Refusal.the-variants.{ShortOutput}
 use Rattle.model.specs.declared.Verdict.{Verdict}
 use Rattle.model.specs.declared.Verdict.the-variants.{Accepted, Refused}
 use Rattle.model.specs.Refusals.{demand, _then_, memoryFits, verdictNumber}
+use Rattle.model.proofs.Stores.{overlaid}
 use Rattle.image.specs.declared.WriteResult.{WriteResult}
 use Rattle.image.specs.Format.{imageOf}
-use Rattle.image.specs.Calls.{writeVerdict, writeResult, writeBytes, writeNumber, Writes}
-use Rattle.model.proofs.Stores.{overlaid}
+use Rattle.image.specs.Calls.{writeVerdict, writeResult, writeBytes, writeNumber, verdictSize, writeSize, Writes}
 
 module _ (memory : List ℕ) (machine : Machine) (out : List ℕ) where
   abbrev image : List ℕ
@@ -26,6 +26,10 @@ module _ (memory : List ℕ) (machine : Machine) (out : List ℕ) where
   numbered Accepted = refl
   numbered (Refused why) = refl
 
+  sized : (v : Verdict) → writeSize (writeResult v image) ≡ verdictSize v image
+  sized Accepted = refl
+  sized (Refused why) = refl
+
   -- the contract, from the verdict and what it asks of the output
   judged : (v : Verdict) (out′ : List ℕ) → v ≡ writeVerdict memory image out → out′ ≡ writeBytes v image out → Writes memory machine out out′ (writeResult v image)
   judged v out′ e o =
@@ -33,6 +37,7 @@ module _ (memory : List ℕ) (machine : Machine) (out : List ℕ) where
         result = ap (λ (x : Verdict). writeResult x image) e;
         bytes = o ∙ ap (λ (x : Verdict). writeBytes x image out) e;
         number = numbered v ∙ ap verdictNumber e;
+        size = sized v ∙ ap (λ (x : Verdict). verdictSize x image) e;
       }
 
   -- the verdict with the two tests as they come out
@@ -50,4 +55,4 @@ module _ (memory : List ℕ) (machine : Machine) (out : List ℕ) where
     pub written : (out′ : List ℕ) (n : ℕ) → length image ≤ length out → out′ ≡ sets out 0 image → n ≡ length image → Writes memory machine out out′ (WriteResult.Written n)
     written out′ n s p e =
         let r = judged Accepted out′ (tests Accepted true fits (le-leb _ _ s)) (p ∙ overlaid out image s) in
-        record { result = ap WriteResult.Written e ∙ r .result; bytes = r .bytes; number = r .number }
+        record { result = ap WriteResult.Written e ∙ r .result; bytes = r .bytes; number = r .number; size = e ∙ r .size }

@@ -8,12 +8,13 @@ use native.Mathlib.Omega.{arith}
 use lib.ListN.{length, take, drop, getD, length-drop, drop-of-length-le}
 use lib.Seq.{sets, take-all, length-take-le, drop-cons, drop-drop}
 use Rattle.model.specs.declared.Machine.{Machine}
+use Rattle.model.specs.Packed.{flagNumbers}
+use Rattle.model.proofs.Stores.{store-step}
 use Rattle.image.specs.Bytes.{bytesOf, wordBytes}
-use Rattle.image.specs.Format.{Field, fieldBytes, versionField, registersField, flagsField, countField, wordsField, endField, wordsPerField, fieldsFor, spanOf, memoryFields, flagBytes, imageOf}
+use Rattle.image.specs.Format.{Field, fieldBytes, versionField, registersField, flagsField, countField, wordsField, endField, wordsPerField, fieldsFor, spanOf, memoryFields, imageOf}
 use Rattle.image.proofs.BytesLaws.{length-bytes, length-word-bytes}
 use Rattle.image.proofs.FieldLaws.{length-field}
 use Rattle.image.proofs.MemoryLaws.{fields-enough, one-field-less, length-memory}
-use Rattle.model.proofs.Stores.{store-step}
 
 -- the next of some words
 pub next-word : (words : List ℕ) (from from′ n n′ : ℕ) → from < length words → from′ ≡ from + 1 → n ≡ n′ + 1
@@ -82,7 +83,7 @@ pub image-put : (version : ℕ) (machine : Machine) (memory o₀ o₁ o₂ o₃ 
     → length (machine .regs) ≡ 8 → end ≡ 53 + spanOf (length memory)
     → o₁ ≡ sets o₀ 0 (1 ∷ 1 ∷ 0 ∷ version ∷ [])
     → o₂ ≡ sets o₁ 4 (fieldBytes registersField (wordBytes (machine .regs)))
-    → o₃ ≡ sets o₂ 39 (fieldBytes flagsField (flagBytes (machine .flags)))
+    → o₃ ≡ sets o₂ 39 (fieldBytes flagsField (flagNumbers (machine .flags)))
     → o₄ ≡ sets o₃ 46 (fieldBytes (countField (length memory)) (bytesOf 4 (length memory)))
     → o₅ ≡ sets o₄ 53 (memoryFields (fieldsFor (length memory)) memory)
     → o₆ ≡ sets o₅ end (0xFF ∷ bytesOf 2 0)
@@ -91,13 +92,13 @@ unfolding imageOf
 image-put version machine memory o₀ o₁ o₂ o₃ o₄ o₅ o₆ end eight at p₁ p₂ p₃ p₄ p₅ p₆ =
     let f₁ : List ℕ = fieldBytes versionField (version ∷ []) in
     let f₂ : List ℕ = fieldBytes registersField (wordBytes (machine .regs)) in
-    let f₃ : List ℕ = fieldBytes flagsField (flagBytes (machine .flags)) in
+    let f₃ : List ℕ = fieldBytes flagsField (flagNumbers (machine .flags)) in
     let f₄ : List ℕ = fieldBytes (countField (length memory)) (bytesOf 4 (length memory)) in
     let f₅ : List ℕ = memoryFields (fieldsFor (length memory)) memory in
     let f₆ : List ℕ = fieldBytes endField [] in
     let n₁ : 4 ≡ 0 + length f₁ = omega (arith, length-field versionField (version ∷ [])) in
     let n₂ : 39 ≡ 4 + length f₂ = omega (arith, length-field registersField (wordBytes (machine .regs)), length-word-bytes (machine .regs)) in
-    let n₃ : 46 ≡ 39 + length f₃ = omega (arith, length-field flagsField (flagBytes (machine .flags))) in
+    let n₃ : 46 ≡ 39 + length f₃ = omega (arith, length-field flagsField (flagNumbers (machine .flags))) in
     let n₄ : 53 ≡ 46 + length f₄ = omega (arith, length-field (countField (length memory)) (bytesOf 4 (length memory)), length-bytes 4 (length memory)) in
     let n₅ : end ≡ 53 + length f₅ = omega (arith, length-memory (fieldsFor (length memory)) memory (fields-enough (length memory))) in
     p₆

@@ -9,7 +9,7 @@ ghost use Rattle.image.specs.Bytes.{bytesOf, wordBytes};
 // The compiler joins the four stores into one.
 pub fn put_four(out: &mut [u8], at: usize, a: u8, b: u8, c: u8, d: u8)
     requires { ⌜ at + 4 ≤ length (now out) ⌝ }
-    ensures { λ r. ⌜ now (out .exit) ≡ sets (now (out .entry)) at (a ∷ b ∷ c ∷ d ∷ []) ⌝ }
+    ensures { λ _. ⌜ now (out .exit) ≡ sets (now (out .entry)) at (a ∷ b ∷ c ∷ d ∷ []) ⌝ }
 {
     out[at] = a;
     out[at + 1] = b;
@@ -19,7 +19,7 @@ pub fn put_four(out: &mut [u8], at: usize, a: u8, b: u8, c: u8, d: u8)
 
 pub fn put_word(out: &mut [u8], at: usize, word: u32)
     requires { ⌜ at + 4 ≤ length (now out) ⌝ }
-    ensures { λ r. ⌜ now (out .exit) ≡ sets (now (out .entry)) at (bytesOf 4 word) ⌝ }
+    ensures { λ _. ⌜ now (out .exit) ≡ sets (now (out .entry)) at (bytesOf 4 word) ⌝ }
 {
     let second = word / 256;
     let third = second / 256;
@@ -37,7 +37,7 @@ pub fn put_word(out: &mut [u8], at: usize, word: u32)
 // A field's tag and length.
 pub fn put_header(out: &mut [u8], at: usize, tag: u8, size: u32)
     requires { ⌜ at + 3 ≤ length (now out) ⌝ }
-    ensures { λ r. ⌜ now (out .exit) ≡ sets (now (out .entry)) at (tag ∷ bytesOf 2 size) ⌝ }
+    ensures { λ _. ⌜ now (out .exit) ≡ sets (now (out .entry)) at (tag ∷ bytesOf 2 size) ⌝ }
 {
     out[at] = tag;
     out[at + 1] = (size % 256) as u8;
@@ -47,7 +47,7 @@ pub fn put_header(out: &mut [u8], at: usize, tag: u8, size: u32)
 // `count` words, those from `from` on.
 pub fn put_words(words: &[u32], from: usize, count: usize, out: &mut [u8], at: usize)
     requires { ⌜ (from + count ≤ length (now words)) × (at + 4 * count ≤ length (now out)) ⌝ }
-    ensures { λ r. ⌜ now (out .exit) ≡ sets (now (out .entry)) at (wordBytes (take count (drop from (now (words .entry))))) ⌝ }
+    ensures { λ _. ⌜ now (out .exit) ≡ sets (now (out .entry)) at (wordBytes (take count (drop from (now (words .entry))))) ⌝ }
 {
     let mut i = 0;
     while i < count {

@@ -11,8 +11,9 @@ ghost use Prim.Native.Nat.{_+_, _*_, _≤_};
 ghost use lib.ListN.{length, take, drop};
 ghost use lib.Seq.{sets};
 ghost use Rattle.model.specs.Refusals.{mostWords};
+ghost use Rattle.model.specs.Packed.{flagNumbers};
 ghost use Rattle.image.specs.Bytes.{bytesOf, wordBytes};
-ghost use Rattle.image.specs.Format.{fieldBytes, registersField, flagsField, countField, wordsField, wordsPerField, fieldsFor, spanOf, memoryFields, flagBytes, imageOf};
+ghost use Rattle.image.specs.Format.{fieldBytes, registersField, flagsField, countField, wordsField, wordsPerField, fieldsFor, spanOf, memoryFields, imageOf};
 
 pub fn image_size(words: usize) -> usize
     requires { ⌜ words ≤ mostWords ⌝ }
@@ -23,7 +24,7 @@ pub fn image_size(words: usize) -> usize
 
 fn put_registers(out: &mut [u8], at: usize, regs: [u32; 8])
     requires { ⌜ at + 35 ≤ length (now out) ⌝ }
-    ensures { λ r. ⌜ now (out .exit) ≡ sets (now (out .entry)) at (fieldBytes registersField (wordBytes regs)) ⌝ }
+    ensures { λ _. ⌜ now (out .exit) ≡ sets (now (out .entry)) at (fieldBytes registersField (wordBytes regs)) ⌝ }
 {
     put_header(out, at, 2, 32);
     put_words(&regs, 0, 8, out, at + 3);
@@ -31,7 +32,7 @@ fn put_registers(out: &mut [u8], at: usize, regs: [u32; 8])
 
 fn put_flags(out: &mut [u8], at: usize, flags: Flags)
     requires { ⌜ at + 7 ≤ length (now out) ⌝ }
-    ensures { λ r. ⌜ now (out .exit) ≡ sets (now (out .entry)) at (fieldBytes flagsField (flagBytes flags)) ⌝ }
+    ensures { λ _. ⌜ now (out .exit) ≡ sets (now (out .entry)) at (fieldBytes flagsField (flagNumbers flags)) ⌝ }
 {
     put_header(out, at, 3, 4);
     put_four(
@@ -46,7 +47,7 @@ fn put_flags(out: &mut [u8], at: usize, flags: Flags)
 
 fn put_count(out: &mut [u8], at: usize, words: u32)
     requires { ⌜ at + 7 ≤ length (now out) ⌝ }
-    ensures { λ r. ⌜ now (out .exit) ≡ sets (now (out .entry)) at (fieldBytes (countField words) (bytesOf 4 words)) ⌝ }
+    ensures { λ _. ⌜ now (out .exit) ≡ sets (now (out .entry)) at (fieldBytes (countField words) (bytesOf 4 words)) ⌝ }
 {
     put_header(out, at, 4, 4);
     put_word(out, at + 3, words);
@@ -55,7 +56,7 @@ fn put_count(out: &mut [u8], at: usize, words: u32)
 // One tag-05 field.
 fn put_word_field(memory: &[u32], from: usize, count: usize, out: &mut [u8], at: usize)
     requires { ⌜ (from + count ≤ length (now memory)) × (count ≤ wordsPerField) × (at + 3 + 4 * count ≤ length (now out)) ⌝ }
-    ensures { λ r. ⌜ now (out .exit) ≡ sets (now (out .entry)) at (fieldBytes (wordsField count) (wordBytes (take count (drop from (now (memory .entry)))))) ⌝ }
+    ensures { λ _. ⌜ now (out .exit) ≡ sets (now (out .entry)) at (fieldBytes (wordsField count) (wordBytes (take count (drop from (now (memory .entry)))))) ⌝ }
 {
     put_header(out, at, 5, (4 * count) as u32);
     put_words(memory, from, count, out, at + 3);
@@ -64,7 +65,7 @@ fn put_word_field(memory: &[u32], from: usize, count: usize, out: &mut [u8], at:
 // All tag-05 fields.
 fn put_memory(memory: &[u32], out: &mut [u8], start: usize)
     requires { ⌜ start + spanOf (length (now memory)) ≤ length (now out) ⌝ }
-    ensures { λ r. ⌜ now (out .exit) ≡ sets (now (out .entry)) start (memoryFields (fieldsFor (length (now (memory .entry)))) (now (memory .entry))) ⌝ }
+    ensures { λ _. ⌜ now (out .exit) ≡ sets (now (out .entry)) start (memoryFields (fieldsFor (length (now (memory .entry)))) (now (memory .entry))) ⌝ }
 {
     let mut at = start;
     let mut from = 0;
@@ -78,7 +79,7 @@ fn put_memory(memory: &[u32], out: &mut [u8], start: usize)
 
 pub fn put_image(memory: &[u32], machine: Machine, out: &mut [u8])
     requires { ⌜ (length (now memory) ≤ mostWords) × (56 + spanOf (length (now memory)) ≤ length (now out)) ⌝ }
-    ensures { λ r. ⌜ now (out .exit) ≡ sets (now (out .entry)) 0 (imageOf 1 machine (now (memory .entry))) ⌝ }
+    ensures { λ _. ⌜ now (out .exit) ≡ sets (now (out .entry)) 0 (imageOf 1 machine (now (memory .entry))) ⌝ }
 {
     let words = memory.len();
     let end = image_size(words) - 3;

@@ -16,15 +16,15 @@ use Rattle.model.specs.Refusals.{verdictNumber, mostInstructions, demand, _then
 use Rattle.model.specs.Interpreter.{Run, begin, interpret}
 use Rattle.model.specs.Journal.{journalPairs}
 use Rattle.model.proofs.Verdicts.{demanded, both}
+use Rattle.journal.specs.Journals.{undone}
+use Rattle.journal.proofs.JournalLaws.{back}
 use Rattle.interpreter.specs.declared.RunAnswer.{RunAnswer}
 use Rattle.interpreter.specs.declared.RunResult.{RunResult}
 use Rattle.interpreter.specs.declared.FileAnswer.{FileAnswer}
 use Rattle.interpreter.specs.declared.FileResult.{FileResult}
 use Rattle.interpreter.specs.declared.engine.Ended.{Ended}
-use Rattle.journal.specs.Journals.{undone}
 use Rattle.interpreter.specs.Runs.{Ends}
 use Rattle.interpreter.specs.Calls.{runAnswer, runResult, runMemory, runNumber, Runs, fileEnd, fileResult, fileMemory, fileJournal, fileNumber, FileRuns}
-use Rattle.journal.proofs.JournalLaws.{back}
 
 -- ---- the run
 
@@ -59,6 +59,14 @@ module _ (memory waits : List ℕ) (start : Machine) (count : ℕ) where
       → Ends memory waits journal start count memory′ journal′ e → a ≡ runAnswer (e .ending)
       → Runs memory waits start count memory′ (record { answer = a; machine = e .machine; ran = e .ran; clocks = e .clocks })
   run-carried p e h f = as-result Accepted (sym p ∙ e) (rw (f, h .result)) (h .words)
+
+  -- what a run that is carried out returns, and leaves in the memory
+  module _ {r : RunResult} {memory′ : List ℕ} (v : runVerdict memory waits ≡ Accepted) (c : Runs memory waits start count memory′ r) where
+    pub returned : r ≡ runResult Accepted start ran
+    returned = c .result ∙ ap (λ (w : Verdict). runResult w start ran) v
+
+    pub left-in : memory′ ≡ ran .memory
+    left-in = c .words ∙ ap (λ (w : Verdict). runMemory w memory ran) v
 
 -- ---- the file run
 

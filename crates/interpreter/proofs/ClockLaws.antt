@@ -11,10 +11,11 @@ use borrow.Author.Tests.{lt-ltb, le-ltb}
 use Rattle.arithmetic.specs.Words.{asNumber}
 use Rattle.model.specs.declared.Operand.{Operand}
 use Rattle.model.specs.Operands.{inMemory}
+use Rattle.model.specs.Interpreter.{costOf}
 use Rattle.model.specs.Waits.{waitAt, nextWait, waitSum, positionAfter}
 use Rattle.operands.proofs.Operands.{absent}
 use Rattle.interpreter.specs.declared.clocks.Spent.{Spent}
-use Rattle.interpreter.specs.Clocks.{costOf, moreOf, walkedOf, clockedOf}
+use Rattle.interpreter.specs.Clocks.{moreOf, walkedOf, clockedOf}
 
 spent-eq : {c d p q : ℕ} → c ≡ d → p ≡ q → _≡_ {A = Spent} (record { clocks = c; position = p }) (record { clocks = d; position = q })
 spent-eq e f = rw (e, f)
@@ -52,10 +53,10 @@ module _ (waits : List ℕ) where
   walked-more : (c p n : ℕ) {w v : Spent} → v ≡ walkedOf waits c p n → w ≡ moreOf waits v → w ≡ walkedOf waits c p (suc n)
   walked-more c p n e f = f ∙ ap (moreOf waits) e ∙ spent-eq (omega (arith, sum-more p n)) (sym (position-more p n))
 
-  pub walked-first : (c p : ℕ) {w : Spent} → w ≡ moreOf waits (record { clocks = c; position = p }) → w ≡ walkedOf waits c p 1
+  walked-first : (c p : ℕ) {w : Spent} → w ≡ moreOf waits (record { clocks = c; position = p }) → w ≡ walkedOf waits c p 1
   walked-first c p f = walked-more c p 0 (walked-none c p) f
 
-  pub walked-if : (c p n : ℕ) {w v : Spent} (t : Bool) → v ≡ walkedOf waits c p n → w ≡ cond t (moreOf waits v) v → w ≡ walkedOf waits c p (n + asNumber t)
+  walked-if : (c p n : ℕ) {w v : Spent} (t : Bool) → v ≡ walkedOf waits c p n → w ≡ cond t (moreOf waits v) v → w ≡ walkedOf waits c p (n + asNumber t)
   walked-if c p n true e f = rw (add-one n) (walked-more c p n e f)
   walked-if c p n false e f = rw (add-zero n) (f ∙ e)
 
@@ -88,7 +89,7 @@ module _ (waits : List ℕ) where
     no-move zero = refl
     no-move (suc n) = rw stays (no-move n)
 
-    pub walked-past : (n : ℕ) → record { clocks = c; position = p } ≡ walkedOf waits c p n
+    walked-past : (n : ℕ) → record { clocks = c; position = p } ≡ walkedOf waits c p n
     walked-past n = spent-eq (omega (arith, no-sum n)) (sym (no-move n))
 
   pub clocked-past : (w : Spent) (oa ob : Operand) (stored : Bool) {a b : Bool} {x : ℕ} → a ≡ inMemory oa → b ≡ inMemory ob → x ≡ costOf a b stored

@@ -11,21 +11,21 @@ use Rattle.model.specs.declared.Flags.{Flags}
 use Rattle.model.specs.declared.Machine.{Machine}
 use Rattle.model.specs.declared.Ending.the-variants.{Finished, Outside}
 use Rattle.model.specs.Waits.{waitAt}
-use Rattle.model.specs.Operands.{registerWord}
 use Rattle.model.specs.Interpreter as I
-use Rattle.model.specs.Journal.{Pair, storedBy, journalPairs, journalWords, overlay}
+use Rattle.model.specs.Words.{overlay}
+use Rattle.model.specs.Journal.{Pair, storedBy, journalPairs, journalWords}
+use Rattle.model.specs.Packed.{packedOf, flagsOf}
 use Rattle.model.proofs.Bounds.{clocks-le}
 use Rattle.model.proofs.Runs.{outside-stays, outside-pairs, pairs-le}
-use Rattle.model.specs.Packed.{packedOf, flagsOf}
 use Rattle.effects.proofs.Packing.{unpacks}
 use Rattle.step.specs.declared.Stepped.{Stepped}
-use Rattle.step.specs.Steps.{machine, kept, journaled, steppedOf, stoppedAt, Steps}
+use Rattle.step.specs.Steps.{machine, journaled, steppedOf, stoppedAt, Steps}
 use Rattle.step.proofs.StepLaws.{cond-true, cond-false}
+use Rattle.journal.proofs.JournalLaws.{noted-length, noted-words}
 use Rattle.interpreter.specs.declared.clocks.Spent.{Spent}
 use Rattle.interpreter.specs.declared.engine.Ended.{Ended}
 use Rattle.interpreter.specs.Clocks.{clockedOf}
-use Rattle.interpreter.specs.Runs.{Ends}
-use Rattle.journal.proofs.JournalLaws.{noted-length, noted-words}
+use Rattle.interpreter.specs.Runs.{endedAt, Ends}
 
 abbrev runAt : List ℕ → Flags → List ℕ → ℕ → ℕ → ℕ → I.Run
 runAt regs flags memory position ran clocks =
@@ -90,7 +90,7 @@ module _ {regs memory journal : List ℕ} {pairs flags : ℕ} {regs′ memory′
     former-is false b a f g = refl
 
     stores : s .inside ≡ true
-        → storedBy at ≡ cond (kept memory m) (record { address = registerWord (I.opB memory m) (I.regsB memory m); former = I.valueB memory m } ∷ []) []
+        → storedBy at ≡ cond (I.storesToMemory memory m) (record { address = I.addressB memory m; former = I.valueB memory m } ∷ []) []
     unfolding storedBy
     stores e = rw (is-inside e) (former-is (I.isStored memory m) _ _ _ _)
 
@@ -134,20 +134,20 @@ module _ (memory₀ waits journal₀ : List ℕ) (start : Machine) (count : ℕ)
           → count < 2 ^ 32 → length memory′ ≡ length memory → length journal′ ≡ length journal
           → At memory′ journal′ regs′ (s .flags) (w .position) (w .clocks) (s .pairs) (i + 1)
       turn e f few lm lj =
-          let p : Pair = record { address = registerWord (I.opB memory (m h)) (I.regsB memory (m h)); former = I.valueB memory (m h) } in
-          let q : pairsAt (i + 1) ≡ pairsAt i ++ cond (kept memory (m h)) (p ∷ []) [] = next-pairs ∙ ap (λ (l : List Pair). pairsAt i ++ l) (stores h waits position i clocks e) in
+          let p : Pair = record { address = I.addressB memory (m h); former = I.valueB memory (m h) } in
+          let q : pairsAt (i + 1) ≡ pairsAt i ++ cond (I.storesToMemory memory (m h)) (p ∷ []) [] = next-pairs ∙ ap (λ (l : List Pair). pairsAt i ++ l) (stores h waits position i clocks e) in
           let below : pairs < count = omega (arith, a .counted, pairs-le waits i first) in
           record {
             state = next ∙ advances h waits position i clocks e f;
-            counted = ap (λ (s : Stepped). s .pairs) (is-stepped h e) ∙ noted-length (pairsAt i) p pairs (a .counted) (omega arith) (kept memory (m h)) ∙ ap length (sym q);
-            journaled = λ room. next-places h e ∙ noted-words (pairsAt i) p pairs (a .counted) journal journal₀ (omega arith) (a .journaled room) (kept memory (m h)) ∙ ap (λ (l : List Pair). overlay (journalWords l) journal₀) (sym q);
+            counted = ap (λ (s : Stepped). s .pairs) (is-stepped h e) ∙ noted-length (pairsAt i) p pairs (a .counted) (omega arith) (I.storesToMemory memory (m h)) ∙ ap length (sym q);
+            journaled = λ room. next-places h e ∙ noted-words (pairsAt i) p pairs (a .counted) journal journal₀ (omega arith) (a .journaled room) (I.storesToMemory memory (m h)) ∙ ap (λ (l : List Pair). overlay (journalWords l) journal₀) (sym q);
             below = omega arith;
             words = lm ∙ a .words;
             places = lj ∙ a .places;
           }
 
-      outside : s .inside ≡ false → {f : Flags} → f ≡ flagsOf flags
-          → Ends memory₀ waits journal₀ start count memory′ journal′ (record { ending = Outside; machine = machine regs′ f; ran = i; clocks = clocks; pairs = pairs })
+      outside : s .inside ≡ false → {ended : Ended} → ended ≡ endedAt Outside (machine regs′ (flagsOf flags)) i clocks pairs
+          → Ends memory₀ waits journal₀ start count memory′ journal′ ended
       unfolding I.stop
       outside e g =
           let stopped : I.interpret waits (i + 1) first ≡ I.stop Outside (runAt regs (flagsOf flags) memory position i clocks) = next ∙ stops h waits position i clocks e in
@@ -155,18 +155,18 @@ module _ (memory₀ waits journal₀ : List ℕ) (start : Machine) (count : ℕ)
           let ran : I.interpret waits count first ≡ I.stop Outside (runAt regs (flagsOf flags) memory position i clocks) = outside-stays waits first (omega arith) out ∙ stopped in
           let same : pairsAt count ≡ pairsAt i = outside-pairs waits first (omega arith) out ∙ next-pairs ∙ ap (λ (l : List Pair). pairsAt i ++ l) (stores-none h waits position i clocks e) ∙ append-nil (pairsAt i) in
           record {
-            result = rw (ran, same, same-regs h e, g, a .counted);
+            result = rw (g, ran, same, same-regs h e, a .counted);
             words = rw (ran, same-words h e);
             pairs = λ room. same-places h e ∙ a .journaled room ∙ ap (λ (l : List Pair). overlay (journalWords l) journal₀) (sym same);
           }
 
   finished : {memory journal regs : List ℕ} {flags position clocks pairs i : ℕ} → At memory journal regs flags position clocks pairs i → count ≤ i
-      → {f : Flags} → f ≡ flagsOf flags
-      → Ends memory₀ waits journal₀ start count memory journal (record { ending = Finished; machine = machine regs f; ran = i; clocks = clocks; pairs = pairs })
+      → {ended : Ended} → ended ≡ endedAt Finished (machine regs (flagsOf flags)) i clocks pairs
+      → Ends memory₀ waits journal₀ start count memory journal ended
   finished {memory} {journal} {regs} {flags} {position} {clocks} {pairs} {i} a h g =
       let e : count ≡ i = omega (arith, a .below) in
       record {
-        result = rw (e, g, a .state, a .counted);
+        result = rw (g, e, a .state, a .counted);
         words = rw (e, a .state);
         pairs = λ room. a .journaled room ∙ ap (λ (n : ℕ). overlay (journalWords (pairsAt n)) journal₀) (sym e);
       }
@@ -198,12 +198,12 @@ module _ (memory waits journal : List ℕ) (start : Machine) (count : ℕ) {flag
   pub ends-outside : {words places regs : List ℕ} {flags position clocks pairs i : ℕ}
       → At memory waits journal (unpackedStart start flags₀) count words places regs flags position clocks pairs i → i < count
       → {regs′ memory′ journal′ : List ℕ} {s : Stepped} → Steps regs words places pairs flags regs′ memory′ journal′ s
-      → s .inside ≡ false → {f : Flags} → f ≡ flagsOf flags
-      → Ends memory waits journal start count memory′ journal′ (record { ending = Outside; machine = machine regs′ f; ran = i; clocks = clocks; pairs = pairs })
+      → s .inside ≡ false → {ended : Ended} → ended ≡ endedAt Outside (machine regs′ (flagsOf flags)) i clocks pairs
+      → Ends memory waits journal start count memory′ journal′ ended
   ends-outside a less h e g = from-start (outside memory waits journal (unpackedStart start flags₀) count a less h e g)
 
   pub ends-finished : {words places regs : List ℕ} {flags position clocks pairs i : ℕ}
       → At memory waits journal (unpackedStart start flags₀) count words places regs flags position clocks pairs i → count ≤ i
-      → {f : Flags} → f ≡ flagsOf flags
-      → Ends memory waits journal start count words places (record { ending = Finished; machine = machine regs f; ran = i; clocks = clocks; pairs = pairs })
+      → {ended : Ended} → ended ≡ endedAt Finished (machine regs (flagsOf flags)) i clocks pairs
+      → Ends memory waits journal start count words places ended
   ends-finished a h g = from-start (finished memory waits journal (unpackedStart start flags₀) count a h g)

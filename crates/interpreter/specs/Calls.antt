@@ -1,4 +1,5 @@
--- The two public calls, run and file run: their results, the memory and the journal at exit, carried out or turned down. Document 01, "Machine and instruction word", "File run and journal" and "Why a call is turned down".
+-- The two public calls, run and file run: their results, the memory and the journal at exit, carried out or turned down. Document 01,
+-- "Machine and instruction word", "Clocks", "File run and journal" and "Why a call is turned down".
 use Prim.Native.Nat.{ℕ}
 use mathlib.Core.Path.{_≡_}
 use mathlib.Core.List.{List, []}
@@ -10,7 +11,8 @@ use Rattle.model.specs.declared.Verdict.{Verdict}
 use Rattle.model.specs.declared.Verdict.the-variants.{Accepted, Refused}
 use Rattle.model.specs.Refusals.{refusalNumber, verdictNumber, runVerdict, fileVerdict}
 use Rattle.model.specs.Interpreter.{Run, begin, interpret}
-use Rattle.model.specs.Journal.{Pair, journalPairs, journalWords, overlay}
+use Rattle.model.specs.Words.{overlay}
+use Rattle.model.specs.Journal.{Pair, journalPairs, journalWords}
 use Rattle.interpreter.specs.declared.RunAnswer.{RunAnswer}
 use Rattle.interpreter.specs.declared.RunResult.{RunResult}
 use Rattle.interpreter.specs.declared.FileAnswer.{FileAnswer}

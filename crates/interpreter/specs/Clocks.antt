@@ -1,18 +1,12 @@
 -- The clocks of one instruction, from its operands and whether its result was stored: its cost and its waits. Document 01, "Clocks".
 use Prim.Native.Nat.{ℕ, _+_}
-use mathlib.Core.Bool.{Bool, _&&_}
+use mathlib.Core.Bool.{Bool}
 use mathlib.Core.List.{List}
-use Rattle.arithmetic.specs.Words.{asNumber}
 use Rattle.model.specs.declared.Operand.{Operand}
 use Rattle.model.specs.Operands.{inMemory}
+use Rattle.model.specs.Interpreter.{costOf, accessesOf}
 use Rattle.model.specs.Waits.{waitAt, nextWait, waitSum, positionAfter}
 use Rattle.interpreter.specs.declared.clocks.Spent.{Spent}
-
-abbrev pub costOf : (memA memB stored : Bool) → ℕ
-costOf memA memB stored = 8 + asNumber memA + asNumber memB + asNumber stored
-
-abbrev pub accessesOf : (memA memB stored : Bool) → ℕ
-accessesOf memA memB stored = 1 + asNumber memA + asNumber memB + asNumber (stored && memB)
 
 -- one access more, and n accesses from position p after c clocks
 abbrev pub moreOf : List ℕ → Spent → Spent

@@ -1,16 +1,22 @@
--- What the loop that both runs share leaves: the state, the memory and the journal of `interpret`. Document 01, "Machine and instruction word", "Clocks" and "File run and journal".
+-- What the loop that both runs share leaves: the state, the memory and the journal of `interpret`. Document 01, "Machine and instruction
+-- word", "Clocks" and "File run and journal".
 use Prim.Native.Nat.{ℕ, _*_, _≤_}
 use mathlib.Core.Path.{_≡_}
 use mathlib.Core.List.{List}
 use lib.ListN.{length}
 use Rattle.model.specs.declared.Machine.{Machine}
+use Rattle.model.specs.declared.Ending.{Ending}
 use Rattle.model.specs.Interpreter.{Run, begin, interpret}
-use Rattle.model.specs.Journal.{journalPairs, journalWords, overlay}
+use Rattle.model.specs.Words.{overlay}
+use Rattle.model.specs.Journal.{journalPairs, journalWords}
 use Rattle.interpreter.specs.declared.engine.Ended.{Ended}
 
+abbrev pub endedAt : Ending → Machine → (ran clocks pairs : ℕ) → Ended
+endedAt ending m ran clocks pairs =
+    record { ending = ending; machine = m; ran = ran; clocks = clocks; pairs = pairs }
+
 abbrev pub endedOf : Run → ℕ → Ended
-endedOf r pairs =
-    record { ending = r .ending; machine = r .machine; ran = r .ran; clocks = r .clocks; pairs = pairs }
+endedOf r pairs = endedAt (r .ending) (r .machine) (r .ran) (r .clocks) pairs
 
 pub record Ends (memory waits journal : List ℕ) (start : Machine) (count : ℕ) (memory′ journal′ : List ℕ) (e : Ended) : Type 0 where
   pub result : e ≡ endedOf (interpret waits count (begin start memory 0)) (length (journalPairs waits count (begin start memory 0)))

@@ -4,7 +4,8 @@ use operands::in_memory;
 ghost use mathlib.Core.Path.{_≡_};
 ghost use mathlib.Core.Bool.{cond};
 ghost use Prim.Native.Nat.{_+_, _^_, _<_, _≤_};
-ghost use Rattle.interpreter.specs.Clocks.{costOf, moreOf, clockedOf};
+ghost use Rattle.model.specs.Interpreter.{costOf};
+ghost use Rattle.interpreter.specs.Clocks.{moreOf, clockedOf};
 
 // Clocks so far, and the position in the wait list.
 pub struct Spent {

@@ -6,7 +6,10 @@ use effects::unpacked;
 use model::Ending;
 use model::Machine;
 use step::step;
-ghost use Rattle.interpreter.specs.Runs.{Ends};
+ghost use mathlib.Core.Path.{_≡_};
+ghost use Rattle.model.specs.Packed.{flagsOf};
+ghost use Rattle.step.specs.Steps.{machine};
+ghost use Rattle.interpreter.specs.Runs.{endedAt, Ends};
 
 // A run at its end, with the number of its journal pairs.
 pub struct Ended {
@@ -15,6 +18,20 @@ pub struct Ended {
     pub ran: u32,
     pub clocks: u64,
     pub pairs: u32,
+}
+
+// The loop's locals put together.
+fn run_end(ending: Ending, regs: [u32; 8], bits: u32, ran: u32, clocks: u64, pairs: u32) -> Ended
+    ensures { λ r. ⌜ r ≡ endedAt ending (machine regs (flagsOf bits)) ran clocks pairs ⌝ }
+{
+    let flags = unpacked(bits);
+    Ended {
+        ending,
+        machine: Machine { regs, flags },
+        ran,
+        clocks,
+        pairs,
+    }
 }
 
 // Up to count instructions. A journal of 2 * count places gets every pair; a shorter one is for callers that want none.
@@ -37,14 +54,7 @@ pub fn engine(
     while i < count {
         let s = step(&mut regs, &mut *memory, &mut *journal, pairs, flags);
         if !s.inside {
-            let old = unpacked(flags);
-            return Ended {
-                ending: Ending::Outside,
-                machine: Machine { regs, flags: old },
-                ran: i,
-                clocks,
-                pairs,
-            };
+            return run_end(Ending::Outside, regs, flags, i, clocks, pairs);
         }
         let oa = s.oa;
         let ob = s.ob;
@@ -55,12 +65,5 @@ pub fn engine(
         pairs = s.pairs;
         i += 1;
     }
-    let last = unpacked(flags);
-    Ended {
-        ending: Ending::Finished,
-        machine: Machine { regs, flags: last },
-        ran: i,
-        clocks,
-        pairs,
-    }
+    run_end(Ending::Finished, regs, flags, i, clocks, pairs)
 }

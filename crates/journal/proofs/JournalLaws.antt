@@ -10,12 +10,11 @@ use lib.Seq.{drop-cons, set-append-seam, append-snoc, getD-append-add, set-set, 
 use Rattle.model.specs.declared.Machine.{Machine}
 use Rattle.model.specs.declared.Ending.{Ending}
 use Rattle.model.specs.declared.Ending.the-variants.{Finished, Outside}
-use Rattle.model.specs.Words.{wordCount, inc, wordAt, storeWord}
+use Rattle.model.specs.Words.{wordValues, inc, wordAt, storeWord, overlay}
 use Rattle.model.specs.Operands.{inMemory, registerWord}
 use Rattle.model.specs.Interpreter.{Run, opB, regsB, aluOut, inside, isStored, nextMemory, execute, stop, advance, interpret}
-use Rattle.model.specs.Journal.{Pair, storedBy, journalPairs, journalWords, overlay}
+use Rattle.model.specs.Journal.{Pair, storedBy, journalPairs, journalWords, noted}
 use Rattle.model.proofs.Runs.{words-length, words-append}
-use Rattle.step.specs.Steps.{noted}
 use Rattle.journal.specs.Journals.{undone}
 
 -- ---- filling
@@ -31,7 +30,7 @@ overlay-more xs j n v e h =
     ∙ ap (λ (i : ℕ). (xs ++ (v ∷ [])) ++ drop i j) (sym k)
 
 module _ (ps : List Pair) (p : Pair) (n : ℕ) (e : n ≡ length ps) where
-  pub noted-length : n + 1 < wordCount → (kept : Bool) → cond kept (inc n) n ≡ length (ps ++ cond kept (p ∷ []) [])
+  pub noted-length : n + 1 < wordValues → (kept : Bool) → cond kept (inc n) n ≡ length (ps ++ cond kept (p ∷ []) [])
   noted-length small true = rw length-append (omega arith)
   noted-length small false = rw append-nil e
 

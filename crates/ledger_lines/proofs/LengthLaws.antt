@@ -1,7 +1,7 @@
 -- How long the texts are: none is longer than `longestText`.
 use Prim.Native.Nat.{ℕ, zero, suc, _+_, _-_, _*_, _≤_, _<_}
 use mathlib.Core.Path.{_≡_, refl}
-use mathlib.Core.Bool.{Bool, true, false, cond}
+use mathlib.Core.Bool.{Bool, true, false}
 use mathlib.Core.List.{List, []}
 use native.Mathlib.Omega.{arith}
 use lib.Dec.{ltb}
@@ -12,11 +12,11 @@ use Rattle.model.specs.declared.Machine.{Machine}
 use Rattle.model.specs.declared.Ending.{Ending}
 use Rattle.model.specs.declared.Ending.the-variants.{Finished, Outside}
 use Rattle.model.specs.declared.Refusal.{Refusal}
-use Rattle.model.proofs.Verdicts.{numbered}
 use Rattle.model.specs.Refusals.{refusalNumber}
 use Rattle.model.specs.Waits.{waitAt}
-use Rattle.model.specs.Interpreter.{Run, inside, begin, execute, stop, advance, interpret}
-use Rattle.model.proofs.Bounds.{clocks-le}
+use Rattle.model.specs.Interpreter.{Run, begin, interpret}
+use Rattle.model.proofs.Verdicts.{numbered}
+use Rattle.model.proofs.Bounds.{clocks-le, ran-le}
 use Rattle.image.specs.Reading.{Outcome, loaded, refused}
 use Rattle.text.specs.Text.{decimal}
 use Rattle.text.proofs.Figures.{length-digits, decimal-le}
@@ -30,26 +30,6 @@ no-wait p = omega arith
 
 pub clocks-small : (n : ℕ) (r : Run) → interpret [] n r .clocks ≤ r .clocks + n * 11
 clocks-small n r = clocks-le [] 0 no-wait n r
-
-advance-ran : (m : Machine) (memory : List ℕ) (p f c : ℕ) (q : Ending)
-    → advance [] (record { machine = m; memory = memory; position = p; ran = f; clocks = c; ending = q }) .ran ≤ f + 1
-unfolding advance execute stop
-advance-ran m memory p f c Finished = go (inside memory m)
-  where
-    r : Run
-    r = record { machine = m; memory = memory; position = p; ran = f; clocks = c; ending = Finished }
-
-    go : (t : Bool) → cond t (execute [] r) (stop Outside r) .ran ≤ f + 1
-    go true = omega arith
-    go false = omega arith
-advance-ran m memory p f c Outside = omega arith
-
-ran-small : (n : ℕ) (r : Run) → interpret [] n r .ran ≤ r .ran + n
-unfolding interpret
-ran-small zero r = omega arith
-ran-small (suc n) r =
-    let i = interpret [] n r in
-    omega (arith, ran-small n r, advance-ran (i .machine) (i .memory) (i .position) (i .ran) (i .clocks) (i .ending))
 
 -- ---- lines
 
@@ -102,7 +82,7 @@ module _ (start : Machine) (memory : List ℕ) where
         arith,
         between-length before after,
         decimal-le 1 (after .clocks - before .clocks) (omega arith),
-        count-digits (after .ran) n (omega (arith, ran-small (suc n) first)) small,
+        count-digits (after .ran) n (omega (arith, ran-le [] (suc n) first)) small,
       )
 
   pub lines-length : (n : ℕ) → n < 100 → length (lines n first) ≤ 28 * n + (n - 9)
@@ -121,7 +101,7 @@ module _ (start : Machine) (memory : List ℕ) where
         lines-length 16 (omega arith),
         ending-length (endingWord (last .ending)) (last .ran) (last .clocks),
         word-length (last .ending),
-        decimal-le 1 (last .ran) (omega (arith, ran-small 16 first)),
+        decimal-le 1 (last .ran) (omega (arith, ran-le [] 16 first)),
         decimal-le 2 (last .clocks) (omega (arith, clocks-small 16 first)),
       )))
 

@@ -1,11 +1,11 @@
 -- The ledger's text as a list of bytes: what document 01, "The ledger program", has printed for an image.
 use Prim.Native.Nat.{ℕ, zero, suc, _-_}
-use mathlib.Core.List.{List, [], _∷_, _++_}
-use Rattle.arithmetic.specs.Words.{asNumber}
+use mathlib.Core.List.{List, [], _∷_, _++_, map}
 use Rattle.model.specs.declared.Flags.{Flags}
 use Rattle.model.specs.declared.Ending.{Ending}
 use Rattle.model.specs.declared.Ending.the-variants.{Finished, Outside}
 use Rattle.model.specs.declared.Refusal.{Refusal}
+use Rattle.model.specs.Packed.{flagNumbers}
 use Rattle.model.specs.Refusals.{refusalNumber}
 use Rattle.model.specs.Interpreter.{Run, begin, pc, instruction, interpret}
 use Rattle.image.specs.Reading.{Outcome, loaded, refused}
@@ -20,12 +20,7 @@ header = letters "step pc word clocks cvnz\n"
 
 -- the flags as digits, in the order C, V, N, Z
 abbrev pub flagDigits : Flags → List ℕ
-flagDigits flags =
-    digit (asNumber (flags .carry))
-    ∷ digit (asNumber (flags .overflow))
-    ∷ digit (asNumber (flags .negative))
-    ∷ digit (asNumber (flags .zero))
-    ∷ []
+flagDigits flags = map digit (flagNumbers flags)
 
 -- a figure with a space after it; the last figure of a line
 abbrev pub spaced : List ℕ → List ℕ

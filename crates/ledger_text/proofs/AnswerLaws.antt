@@ -6,27 +6,28 @@ use mathlib.Core.List.{List, _++_}
 use native.Mathlib.Nat.{zero-add}
 use native.Mathlib.Omega.{arith}
 use lib.ListN.{length, take, drop, length-append, length-drop}
-use lib.Seq.{sets-eq, take-at, drop-at}
+use lib.Seq.{drop-at}
 use borrow.Author.Tests.{le-leb, lt-leb}
 use Rattle.model.specs.declared.Refusal.{Refusal}
 use Rattle.model.specs.Refusals.{mostWords}
-use Rattle.model.specs.Journal.{overlay}
+use Rattle.model.specs.Words.{overlay}
+use Rattle.model.proofs.Stores.{overlaid}
 use Rattle.image.specs.declared.ReadAnswer.{ReadAnswer}
 use Rattle.image.specs.declared.ReadResult.{ReadResult}
 use Rattle.image.specs.Reading.{Outcome, loaded, refused, readOf}
 use Rattle.image.specs.Calls.{readResult, readWords, Reads}
-use Rattle.image.proofs.Laws.{loadedFits}
-use Rattle.ledger_text.specs.declared.ReportAnswer.{ReportAnswer}
+use Rattle.image.proofs.Loaded.{loadedFits, Loads, loads, first-words}
 use Rattle.ledger_lines.specs.Lines.{refusedText, longestText, ledger}
+use Rattle.ledger_lines.proofs.LengthLaws.{ledger-length}
+use Rattle.ledger_text.specs.declared.ReportAnswer.{ReportAnswer}
 use Rattle.ledger_text.specs.Parts.{Extends, RunPuts}
 use Rattle.ledger_text.specs.Report.{ledgerWords, roomy, Reports}
-use Rattle.ledger_lines.proofs.LengthLaws.{ledger-length}
 
 module _ (bytes memory out : List ℕ) where
-  pub short : length out < longestText → Reports bytes memory out memory out ReportAnswer.ShortOutput
+  pub short : length out < longestText → Reports bytes memory out memory out ReportAnswer.NoRoom
   short h =
       let e = lt-leb longestText (length out) h in
-      record { result = rw e; text = rw e; words = rw e }
+      record { result = rw e; size = rw e; text = rw e; words = rw e }
 
   -- the whole text is in the output
   reported : {memory′ out′ : List ℕ} {q : ℕ} (o : Outcome) → readOf bytes (length memory) ≡ o → longestText ≤ length out
@@ -34,10 +35,12 @@ module _ (bytes memory out : List ℕ) where
   reported o is room put words =
       let e = le-leb longestText (length out) room in
       let size = length (ledger o) in
-      let fits : 0 + size ≤ length out = omega (arith, ledger-length o) in
+      let fits : size ≤ length out = omega (arith, ledger-length o) in
+      let whole = put .place ∙ zero-add size in
       record {
-        result = rw (e, is) (ap ReportAnswer.Text (put .place ∙ zero-add size));
-        text = rw (e, is) (put .buffer ∙ sets-eq (ledger o) out 0 fits ∙ ap (λ (k : ℕ). ledger o ++ drop k out) (zero-add size));
+        result = rw (e, is) (ap ReportAnswer.Text whole);
+        size = rw (e, is) whole;
+        text = rw (e, is) (put .buffer ∙ overlaid out (ledger o) fits);
         words = rw (e, is) words;
       }
 
@@ -56,32 +59,10 @@ module _ (bytes memory out : List ℕ) where
         let k = is-refused why e (readOf bytes (length memory)) refl in
         reported (refused why) (k .0) room put (k .1)
 
-    -- an image that is run: its words are the memory's first ones
-    record Loads (count : ℕ) : Type 0 where
-      version : ℕ
-      words : List ℕ
-      is : readOf bytes (length memory) ≡ loaded version (r .machine) words
-      long : length words ≡ count
-      whole : memory₁ ≡ overlay words memory
-
-    loads : (count : ℕ) → r .answer ≡ ReadAnswer.Loaded count → (o : Outcome) → readOf bytes (length memory) ≡ o → Loads count
-    loads count e (loaded version machine words) is =
-        let k : r ≡ readResult (loaded version machine words) = h .result ∙ ap readResult is in
-        record {
-          version = version;
-          words = words;
-          is = is ∙ ap (λ (x : ReadResult). loaded version (x .machine) words) (sym k);
-          long = cc;
-          whole = h .words ∙ ap (λ (o : Outcome). readWords o memory) is;
-        }
-    loads count e (refused why) is =
-        let k : r ≡ readResult (refused why) = h .result ∙ ap readResult is in
-        let z : _≡_ {A = ℕ} 0 1 = cc in
-        absurd (omega arith)
-
+    -- an image that is run
     module _ (count : ℕ) (e : r .answer ≡ ReadAnswer.Loaded count) (kept : length memory₁ ≡ length memory) where
-      l : Loads count
-      l = loads count e (readOf bytes (length memory)) refl
+      l : Loads bytes memory memory₁ r count
+      l = loads h e
 
       pub within : count ≤ length memory₁
       within =
@@ -89,7 +70,7 @@ module _ (bytes memory out : List ℕ) where
           omega (arith, ap length (l .whole), length-append w (drop (length w) memory), length-drop (length w) memory, l .long, kept)
 
       first : take count memory₁ ≡ l .words
-      first = ap (take count) (l .whole) ∙ take-at (l .words) (drop (length (l .words)) memory) count (l .long)
+      first = first-words l
 
       after : drop count memory₁ ≡ drop count memory
       after =
@@ -98,7 +79,7 @@ module _ (bytes memory out : List ℕ) where
           ∙ ap (λ (k : ℕ). drop k memory) (l .long)
 
       pub runs : (0 < length (take count memory₁)) × (length (take count memory₁) ≤ mostWords)
-      runs = rw first (loadedFits bytes (length memory) (l .is))
+      runs = rw first (loadedFits (length memory) (l .version) (r .machine) (l .words) bytes (l .is))
 
       pub good : {part out′ : List ℕ} {q : ℕ} → longestText ≤ length out → RunPuts (r .machine) (take count memory₁) out part out′ q
           → length part ≡ length (take count memory₁) → Reports bytes memory out (part ++ drop count memory₁) out′ (ReportAnswer.Text q)
@@ -116,7 +97,7 @@ text-within {bytes} {memory} {out} {out′ = out′} {r = r} h n e = go (roomy o
     text : List ℕ
     text = ledger (readOf bytes (length memory))
 
-    go : (t : Bool) → r ≡ cond t (ReportAnswer.Text (length text)) ReportAnswer.ShortOutput → out′ ≡ cond t (overlay text out) out → n ≤ length out′
+    go : (t : Bool) → r ≡ cond t (ReportAnswer.Text (length text)) ReportAnswer.NoRoom → out′ ≡ cond t (overlay text out) out → n ≤ length out′
     go true f g =
         let k : n ≡ length text = cc in
         omega (arith, ap length g, length-append text (drop (length text) out))

@@ -4,8 +4,8 @@ use mathlib.Core.Path.{ap, _∙_}
 use mathlib.Core.List.{List, [], _∷_, _++_}
 use native.Mathlib.Omega.{arith}
 use lib.ListN.{length, length-append}
-use Rattle.text.specs.Text.{decimal, Puts}
 use Rattle.model.proofs.Stores.{sets-append}
+use Rattle.text.specs.Text.{decimal, Puts}
 use Rattle.text.proofs.Figures.{decimal-le}
 use Rattle.ledger_text.specs.Parts.{Extends, ExtendsBy}
 

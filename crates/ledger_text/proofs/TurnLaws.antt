@@ -7,31 +7,22 @@ use lib.ListN.{length}
 use borrow.Author.Tests.{lt-ltb, le-leb}
 use Rattle.model.specs.declared.Machine.{Machine}
 use Rattle.model.specs.declared.Ending.the-variants.{Finished, Outside}
-use Rattle.model.specs.declared.Verdict.{Verdict}
 use Rattle.model.specs.declared.Verdict.the-variants.{Accepted}
 use Rattle.model.specs.Refusals.{mostWords, runVerdict}
 use Rattle.model.specs.Interpreter.{Run, pc, instruction, begin, stop, interpret}
 use Rattle.interpreter.specs.declared.RunResult.{RunResult}
-use Rattle.interpreter.specs.Calls.{runResult, runMemory, Runs}
+use Rattle.interpreter.specs.Calls.{runResult, Runs}
+use Rattle.interpreter.proofs.CallLaws.{returned, left-in}
 use Rattle.ledger_lines.specs.Lines.{line, lines, header, ending, endingWord}
+use Rattle.ledger_lines.proofs.LengthLaws.{clocks-small, lines-length}
 use Rattle.ledger_text.specs.Parts.{Extends, RunPuts}
 use Rattle.ledger_text.proofs.PartLaws.{_▸_}
 use Rattle.ledger_text.proofs.RunLaws.{runAt, one, stops, next-run, next-lines, outside-run, outside-text, finished-text}
-use Rattle.ledger_lines.proofs.LengthLaws.{clocks-small, lines-length}
 
--- ---- what a run of one instruction answers
-
-module _ {memory : List ℕ} {machine : Machine} {memory′ : List ℕ} {r : RunResult} (h : Runs memory [] machine 1 memory′ r)
-    (some : 0 < length memory) (most : length memory ≤ mostWords) where
-  accepted : runVerdict memory [] ≡ Accepted
-  unfolding runVerdict
-  accepted = rw (lt-ltb 0 (length memory) some, le-leb (length memory) mostWords most)
-
-  result-is : r ≡ runResult Accepted machine (one machine memory)
-  result-is = h .result ∙ ap (λ (v : Verdict). runResult v machine (one machine memory)) accepted
-
-  words-are : memory′ ≡ one machine memory .memory
-  words-are = h .words ∙ ap (λ (v : Verdict). runMemory v memory (one machine memory)) accepted
+-- a run of one instruction on such a memory is carried out
+accepted : (memory : List ℕ) → 0 < length memory → length memory ≤ mostWords → runVerdict memory [] ≡ Accepted
+unfolding runVerdict
+accepted memory some most = rw (lt-ltb 0 (length memory) some, le-leb (length memory) mostWords most)
 
 -- ---- the loop, from a buffer that holds the header
 
@@ -68,7 +59,10 @@ module _ (start : Machine) (memory₀ out₀ : List ℕ) (at₀ : ℕ) where
     module _ {memory′ : List ℕ} {r : RunResult} (h : Runs memory [] machine 1 memory′ r)
         (some : 0 < length memory) (most : length memory ≤ mostWords) where
       now-is : r ≡ runResult Accepted machine (one machine memory)
-      now-is = result-is h some most
+      now-is = returned memory [] machine 1 (accepted memory some most) h
+
+      words-are : memory′ ≡ one machine memory .memory
+      words-are = left-in memory [] machine 1 (accepted memory some most) h
 
       pub clocks-fit : clocks + r .clocks ≤ 200
       clocks-fit =
@@ -87,7 +81,7 @@ module _ (start : Machine) (memory₀ out₀ : List ℕ) (at₀ : ℕ) where
       turn went less same same-room word-is put =
           let goes : one machine memory .ran ≡ 0 → ⊥ = λ e. went (ap (λ (x : RunResult). x .ran) now-is ∙ e) in
           record {
-            state = next-run first (a .state) goes ∙ rw (now-is, words-are h some most);
+            state = next-run first (a .state) goes ∙ rw (now-is, words-are);
             text = rw (next-lines first (a .state) goes) (a .text ▸ (rw (now-is, word-is) at put));
             below = omega arith;
             words = same ∙ a .words;
@@ -103,7 +97,7 @@ module _ (start : Machine) (memory₀ out₀ : List ℕ) (at₀ : ℕ) where
           record {
             text = rw (outside-text first (a .state) less stays) at (top ▸ a .text ▸ put);
             words =
-                words-are h some most
+                words-are
                 ∙ stops machine memory ran clocks stays .1
                 ∙ sym (ap (λ (x : Run). x .memory) (outside-run first (a .state) less stays));
           }

@@ -6,10 +6,10 @@ use mathlib.Core.List.{List, []}
 use lib.Dec.{leb}
 use lib.ListN.{length}
 use Rattle.model.specs.Interpreter.{begin, interpret}
-use Rattle.model.specs.Journal.{overlay}
+use Rattle.model.specs.Words.{overlay}
 use Rattle.image.specs.Reading.{Outcome, loaded, refused, readOf}
-use Rattle.ledger_text.specs.declared.ReportAnswer.{ReportAnswer}
 use Rattle.ledger_lines.specs.Lines.{mostLines, longestText, ledger}
+use Rattle.ledger_text.specs.declared.ReportAnswer.{ReportAnswer}
 
 -- the words of the image at the memory's front, as the run leaves them; the others, and all of them after a refusal, stay
 abbrev pub ledgerWords : Outcome → (memory : List ℕ) → List ℕ
@@ -20,8 +20,14 @@ ledgerWords (refused why) memory = memory
 abbrev pub roomy : (out : List ℕ) → Bool
 roomy out = leb longestText (length out)
 
+-- how many bytes are put out: none where there is no room, which is no refusal of the paper
+abbrev pub textLength : ReportAnswer → ℕ
+textLength (ReportAnswer.Text bytes) = bytes
+textLength ReportAnswer.NoRoom = 0
+
 -- The answer is the text's length. An output that is not roomy is answered so, whatever the image, and then nothing changes.
 pub record Reports (bytes memory out memory′ out′ : List ℕ) (r : ReportAnswer) : Type 0 where
-  pub result : r ≡ cond (roomy out) (ReportAnswer.Text (length (ledger (readOf bytes (length memory))))) ReportAnswer.ShortOutput
+  pub result : r ≡ cond (roomy out) (ReportAnswer.Text (length (ledger (readOf bytes (length memory))))) ReportAnswer.NoRoom
+  pub size : textLength r ≡ cond (roomy out) (length (ledger (readOf bytes (length memory)))) 0
   pub text : out′ ≡ cond (roomy out) (overlay (ledger (readOf bytes (length memory))) out) out
   pub words : memory′ ≡ cond (roomy out) (ledgerWords (readOf bytes (length memory)) memory) memory

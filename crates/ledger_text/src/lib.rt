@@ -9,12 +9,12 @@ use running::put_run;
 ghost use Rattle.ledger_text.specs.Report.{Reports};
 
 // The bytes of the longest ledger.
-const LONGEST_TEXT: usize = 496;
+pub const LONGEST_TEXT: usize = 496;
 
-// Text: how many bytes the ledger has. ShortOutput: the output has less room than the longest ledger needs.
+// Text: how many bytes the ledger has. NoRoom: the output has less room than the longest ledger needs.
 pub enum ReportAnswer {
     Text(usize),
-    ShortOutput,
+    NoRoom,
 }
 
 // The ledger of an image, put to the front of `out`. The memory, lent for the image's words, holds what their run leaves.
@@ -22,7 +22,7 @@ pub fn report(bytes: &[u8], memory: &mut [u32], out: &mut [u8]) -> ReportAnswer
     ensures { λ r. ⌜ Reports (now (bytes .entry)) (now (memory .entry)) (now (out .entry)) (now (memory .exit)) (now (out .exit)) r ⌝ }
 {
     if out.len() < LONGEST_TEXT {
-        return ReportAnswer::ShortOutput;
+        return ReportAnswer::NoRoom;
     }
     let result = read(bytes, memory);
     let answer = result.answer;

@@ -8,7 +8,6 @@ use model::Ending;
 use model::Machine;
 use operands::load;
 use operands::wide;
-ghost use mathlib.Core.Path.{_≡_};
 ghost use mathlib.Core.List.{[]};
 ghost use Prim.Native.Nat.{_≤_, _<_};
 ghost use lib.ListN.{length};

@@ -5,11 +5,11 @@ use mathlib.Core.Bool.{Bool, true, false, not, cond, _&&_, _||_}
 use mathlib.Core.List.{List}
 use native.Mathlib.Omega.{arith}
 use lib.ListN.{set}
+use Rattle.arithmetic.specs.Words.{asNumber}
 use Rattle.model.specs.declared.Machine.{Machine}
 use Rattle.model.specs.declared.GateState.{GateState}
-use Rattle.arithmetic.specs.Words.{asNumber}
 use Rattle.model.specs.Words.{wordAt, present, storeWord}
-use Rattle.model.specs.Operands.{operandB, registerOf, inMemory, registerWord, operandPresent}
+use Rattle.model.specs.Operands.{operandB, registerOf, inMemory, registerWord}
 use Rattle.model.specs.Waits.{nextWait, positionAfter}
 use Rattle.model.specs.Interpreter as I
 use Rattle.model.specs.Gates.{Gate, gate, withRow, withRegs, withAddress, withA, withB, withAccess, addressPc, readInstruction, stepPc, compute, stepUpA, stepUpB, work, isAccess, clock}
@@ -83,15 +83,6 @@ module _ (waits memory : List ℕ) (s : GateState) where
   abbrev pub wordA : ℕ
   wordA = registerWord (I.opA memory m) (I.regsA memory m)
 
-  abbrev pub wordB : ℕ
-  wordB = registerWord (I.opB memory m) (I.regsB memory m)
-
-  abbrev pub hasA : Bool
-  hasA = operandPresent (I.opA memory m) (I.regsA memory m) memory
-
-  abbrev pub hasB : Bool
-  hasB = operandPresent (I.opB memory m) (I.regsB memory m) memory
-
   -- the state in row 3, then before and in row 5, 7 and 10
   abbrev pub fetched : GateState
   fetched =
@@ -100,21 +91,21 @@ module _ (waits memory : List ℕ) (s : GateState) where
   abbrev pub downA : GateState
   downA = withRegs (I.regsA memory m) fetched
 
-  abbrev pub takenA : GateState
+  abbrev takenA : GateState
   takenA = taken waits memory 4 5 withA downA wordA (downA .position) (downA .left) (inMemory (I.opA memory m))
 
   abbrev pub downB : GateState
   downB = withRegs (I.regsB memory m) takenA
 
-  abbrev pub takenB : GateState
-  takenB = taken waits memory 6 7 withB downB wordB (downB .position) (downB .left) (inMemory (I.opB memory m))
+  abbrev takenB : GateState
+  takenB = taken waits memory 6 7 withB downB (I.addressB memory m) (downB .position) (downB .left) (inMemory (I.opB memory m))
 
   abbrev computed : GateState
   computed = withAddress (takenA .address) (compute memory takenB)
 
   abbrev writtenB : GateState
   writtenB =
-      written waits memory computed wordB (computed .position) (computed .left) (I.isStored memory m) (inMemory (I.opB memory m))
+      written waits memory computed (I.addressB memory m) (computed .position) (computed .left) (I.isStored memory m) (inMemory (I.opB memory m))
 
   module _ (f : ℕ) where
     abbrev pub next : Gate
@@ -127,34 +118,34 @@ module _ (waits memory : List ℕ) (s : GateState) where
         (then waits (accessed waits (addressPc memory (idle s)) memory f refl here (s .position) (s .left) refl refl)
         (row waits refl refl))
 
-    pub takesA : hasA ≡ true
+    pub takesA : I.presentA memory m ≡ true
         → Reaches waits (gate fetched memory f) (1 + asNumber (inMemory (I.opA memory m))) (0 + asNumber (inMemory (I.opA memory m))) (gate takenA memory f)
     unfolding clock work isAccess
     takesA here =
         takes waits memory 4 5 withA downA wordA (downA .position) (downA .left) f refl (λ t. refl) (λ x t. refl)
         (inMemory (I.opA memory m)) here (gate fetched memory f) refl refl
 
-    takesB : hasB ≡ true
+    takesB : I.presentB memory m ≡ true
         → Reaches waits (gate takenA memory f) (1 + asNumber (inMemory (I.opB memory m))) (0 + asNumber (inMemory (I.opB memory m))) (gate takenB memory f)
     unfolding clock work isAccess
     takesB here =
-        takes waits memory 6 7 withB downB wordB (downB .position) (downB .left) f refl (λ t. refl) (λ x t. refl)
+        takes waits memory 6 7 withB downB (I.addressB memory m) (downB .position) (downB .left) f refl (λ t. refl) (λ x t. refl)
         (inMemory (I.opB memory m)) here (gate takenA memory f) refl refl
 
-    writesB : hasB ≡ true
+    writesB : I.presentB memory m ≡ true
         → Reaches waits (gate takenB memory f) (1 + asNumber (I.isStored memory m)) (0 + asNumber (I.isStored memory m && inMemory (I.opB memory m)))
         (gate writtenB (I.nextMemory memory m) f)
     unfolding clock work isAccess
     writesB here =
         then waits (row waits refl refl)
-        (writes waits memory computed wordB (computed .position) (computed .left) f (I.isStored memory m) (inMemory (I.opB memory m)) here)
+        (writes waits memory computed (I.addressB memory m) (computed .position) (computed .left) f (I.isStored memory m) (inMemory (I.opB memory m)) here)
 
     finishes : Reaches waits (gate writtenB (I.nextMemory memory m) f) 2 0 next
     unfolding clock work isAccess
     finishes =
         then waits {h = gate (stepUpA memory writtenB) (I.nextMemory memory m) f} (row waits refl refl) (row waits refl refl)
 
-    pub executes : present memory (I.pc memory m) ≡ true → hasA ≡ true → hasB ≡ true
+    pub executes : present memory (I.pc memory m) ≡ true → I.presentA memory m ≡ true → I.presentB memory m ≡ true
         → Reaches waits (gate (idle s) memory f) (I.baseClocks memory m) (I.accesses memory m) next
     executes hereI hereA hereB =
         costs waits (omega arith) (omega arith)

@@ -6,7 +6,7 @@ use native.Mathlib.Nat.{add-zero, zero-add}
 use native.Mathlib.Omega.{arith}
 use lib.ListN.{length, set, drop}
 use lib.Seq.{sets, sets-eq}
-use Rattle.model.specs.Journal.{overlay}
+use Rattle.model.specs.Words.{overlay}
 
 -- values stored one after the other are stored together
 pub sets-append : (list : List ℕ) (at : ℕ) (a b : List ℕ) → sets (sets list at a) (at + length a) b ≡ sets list at (a ++ b)

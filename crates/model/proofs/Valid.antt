@@ -30,7 +30,7 @@ pub record Valid (s : GateState) : Type 0 where
 pub valid-verdict : (s : GateState) → Valid s → stateFits s ≡ Accepted
 valid-verdict s v = rw (le-leb (s .row) 11 (omega (arith, v .row)), le-leb (s .position) mostWaits (v .position), v .access)
 
-pub verdict-valid : (s : GateState) → stateFits s ≡ Accepted → Valid s
+verdict-valid : (s : GateState) → stateFits s ≡ Accepted → Valid s
 verdict-valid s e =
     let (rp, a) = and-eq-true-iff (leb (s .row) 11 && leb (s .position) mostWaits) (accessFits s) .0 (demanded _ BadGateState e) in
     let (r, p) = and-eq-true-iff (leb (s .row) 11) (leb (s .position) mostWaits) .0 rp in
@@ -156,7 +156,7 @@ module _ (waits : List ℕ) (short : length waits ≤ 65536) where
           let n = none-begun (g .state) e (h .valid .access) in
           works words g (h .valid .row) (h .valid .position) (n .0) (n .1) (h .length)
 
-  pub run-fine : (words k : ℕ) (g : Gate) → Fine words g → Fine words (gateRun waits k g)
+  run-fine : (words k : ℕ) (g : Gate) → Fine words g → Fine words (gateRun waits k g)
   unfolding gateRun
   run-fine words zero g h = h
   run-fine words (suc k) g h = clock-fine words (gateRun waits k g) (run-fine words k g h)

@@ -1,13 +1,25 @@
--- A call that is carried out: nothing that is demanded fails. The numbers of the refusals.
-use Prim.Native.Nat.{_≤_}
+-- Verdicts one after the other; a call that is carried out: nothing that is demanded fails. The numbers of the refusals.
+use Prim.Native.Nat.{ℕ, _≤_, _<_}
 use mathlib.Core.Path.{_≡_, refl}
 use mathlib.Core.Bool.{Bool, true, false}
+use mathlib.Core.List.{List}
 use native.Mathlib.Omega.{arith}
+use lib.Dec.{ltb, leb}
+use lib.ListN.{length}
+use borrow.Author.Tests.{ltb-true, leb-true}
 use Rattle.model.specs.declared.Refusal.{Refusal}
 use Rattle.model.specs.declared.Refusal.the-variants.{NoWords, TooManyWords, LongWaitList, BadGateState, TooManyInstructions, ShortJournal, ShortOutput, CutImage, WrongTag, WrongLength, WrongVersion, BadFlag, BadWordCount, ShortMemory, TrailingBytes}
 use Rattle.model.specs.declared.Verdict.{Verdict}
 use Rattle.model.specs.declared.Verdict.the-variants.{Accepted, Refused}
-use Rattle.model.specs.Refusals.{refusalNumber, demand, _then_}
+use Rattle.model.specs.Refusals.{refusalNumber, verdictNumber, mostWords, demand, _then_, memoryFits}
+
+pub then-assoc : (u v w : Verdict) → ((u then v) then w) ≡ (u then (v then w))
+then-assoc Accepted v w = refl
+then-assoc (Refused why) v w = refl
+
+pub then-accepted : (v : Verdict) → (v then Accepted) ≡ v
+then-accepted Accepted = refl
+then-accepted (Refused why) = refl
 
 pub demanded : (t : Bool) (why : Refusal) → demand t why ≡ Accepted → t ≡ true
 demanded true why e = refl
@@ -16,6 +28,11 @@ demanded false why e = cc
 pub both : (u v : Verdict) → (u then v) ≡ Accepted → (u ≡ Accepted) × (v ≡ Accepted)
 both Accepted v e = (refl, e)
 both (Refused why) v e = (cc, cc)
+
+pub memory-bounds : (memory : List ℕ) → memoryFits memory ≡ Accepted → (0 < length memory) × (length memory ≤ mostWords)
+memory-bounds memory e =
+    let p = both (demand (ltb 0 (length memory)) NoWords) (demand (leb (length memory) mostWords) TooManyWords) e in
+    (ltb-true _ _ (demanded _ NoWords (p .0)), leb-true _ _ (demanded _ TooManyWords (p .1)))
 
 -- a refusal has a number from 1 to 15
 pub numbered : (why : Refusal) → (1 ≤ refusalNumber why) × (refusalNumber why ≤ 15)
@@ -34,3 +51,7 @@ numbered BadFlag = (omega arith, omega arith)
 numbered BadWordCount = (omega arith, omega arith)
 numbered ShortMemory = (omega arith, omega arith)
 numbered TrailingBytes = (omega arith, omega arith)
+
+pub accepted : (v : Verdict) → verdictNumber v ≡ 0 → v ≡ Accepted
+accepted Accepted e = refl
+accepted (Refused why) e = absurd (omega (arith, numbered why .0))

@@ -1,4 +1,5 @@
--- What an instruction has the arithmetic unit do, the flags and the storing condition. Document 01, "Machine and instruction word", move bits 0 and 1. The unit's answers are of the crate arithmetic.
+-- What an instruction has the arithmetic unit do, the flags and the storing condition. Document 01, "Machine and instruction word", move
+-- bits 0 and 1. The unit's answers are of the crate arithmetic.
 use Prim.Native.Nat.{ℕ}
 use mathlib.Core.Bool.{Bool, true, not, cond}
 use mathlib.Core.List.{[], _∷_}
@@ -10,6 +11,7 @@ use Rattle.arithmetic.specs.Alu.{aluOf}
 use Rattle.model.specs.declared.Flags.{Flags}
 use Rattle.model.specs.Words.{field, bit}
 
+-- bit 15, the move bit, and bits 16 to 19, the operation
 unfoldable pub isMove : ℕ → Bool
 isMove w = bit w 15
 
@@ -34,17 +36,18 @@ flagsAfter w flags out =
 abbrev pub condition : ℕ → Flags → Bool
 condition op flags =
     getD
-    (not (flags .carry)
-    ∷ flags .carry
-    ∷ not (flags .overflow)
-    ∷ flags .overflow
-    ∷ not (flags .zero)
-    ∷ flags .zero
-    ∷ not (flags .negative)
-    ∷ flags .negative
+    (not (flags .carry)  -- 0: no C
+    ∷ flags .carry  -- 1: C
+    ∷ not (flags .overflow)  -- 2: no V
+    ∷ flags .overflow  -- 3: V
+    ∷ not (flags .zero)  -- 4: no Z
+    ∷ flags .zero  -- 5: Z
+    ∷ not (flags .negative)  -- 6: no N
+    ∷ flags .negative  -- 7: N
     ∷ [])
     op
     true
 
+-- whether the result is stored: of a move by its condition, of any other instruction always
 unfoldable pub stores : ℕ → Flags → Bool
 stores w flags = cond (isMove w) (condition (operation w) flags) true

@@ -3,8 +3,8 @@ use Prim.Native.Nat.{ℕ}
 use mathlib.Core.Bool.{Bool, true, false, _&&_}
 use mathlib.Core.List.{List, [], _∷_}
 use lib.Dec.{eqb}
-use Rattle.model.specs.declared.GateState.{GateState}
 use Rattle.arithmetic.specs.Words.{asNumber}
+use Rattle.model.specs.declared.GateState.{GateState}
 use Rattle.model.specs.Words.{wordAt}
 use Rattle.model.specs.Interpreter.{interpret}
 use Rattle.model.specs.Gates.{atRest, gateRun}

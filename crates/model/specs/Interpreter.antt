@@ -1,17 +1,29 @@
--- The interpreter: one instruction in the order (i) to (vi), its clocks, and the run of n instructions with "outside". Document 01, "Machine and instruction word" and, for the clocks, "Clocks".
+-- The interpreter: one instruction in the order (i) to (vi), its clocks, and the run of n instructions with "outside". Document 01,
+-- "Machine and instruction word" and, for the clocks, "Clocks".
 use Prim.Native.Nat.{ℕ, zero, suc, _+_}
 use mathlib.Core.Bool.{Bool, cond, _&&_}
 use mathlib.Core.List.{List}
+use Rattle.arithmetic.specs.declared.AluOut.{AluOut}
+use Rattle.arithmetic.specs.Words.{asNumber}
+use Rattle.model.specs.declared.Flags.{Flags}
 use Rattle.model.specs.declared.Machine.{Machine}
 use Rattle.model.specs.declared.Operand.{Operand}
 use Rattle.model.specs.declared.Ending.{Ending}
 use Rattle.model.specs.declared.Ending.the-variants.{Finished, Outside}
-use Rattle.arithmetic.specs.Words.{asNumber}
 use Rattle.model.specs.Words.{inc, wordAt, present}
-use Rattle.model.specs.Operands.{operandA, operandB, inMemory, stepped, stepDown, stepUp, operandPresent, operandValue, storeInRegister, storeInMemory}
-use Rattle.arithmetic.specs.declared.AluOut.{AluOut}
+use Rattle.model.specs.Operands.{operandA, operandB, inMemory, stepped, stepDown, stepUp, registerWord, operandPresent, operandValue, storeInRegister, storeInMemory}
 use Rattle.model.specs.Alu.{alu, flagsAfter, stores}
 use Rattle.model.specs.Waits.{waitSum, positionAfter}
+
+-- ---- the clocks of an instruction, from where its operands are and whether its result is stored
+
+-- 8, and 1 each for A in memory, B in memory and a store of either kind; its waits come on top
+abbrev pub costOf : (memA memB stored : Bool) → ℕ
+costOf memA memB stored = 8 + asNumber memA + asNumber memB + asNumber stored
+
+-- the fetch, A in memory, B in memory, a store to memory
+abbrev pub accessesOf : (memA memB stored : Bool) → ℕ
+accessesOf memA memB stored = 1 + asNumber memA + asNumber memB + asNumber (stored && memB)
 
 -- ---- one instruction, from a memory and a machine
 
@@ -45,16 +57,32 @@ module _ (memory : List ℕ) (m : Machine) where
   abbrev pub valueB : ℕ
   valueB = operandValue opB regsB memory
 
-  -- every address that it reads is there
-  abbrev pub inside : Bool
-  inside = present memory pc && operandPresent opA regsA memory && operandPresent opB regsB memory
+  -- B's address, where it is in memory
+  abbrev pub addressB : ℕ
+  addressB = registerWord opB regsB
 
-  -- (iv) compute and store
+  abbrev pub presentA : Bool
+  presentA = operandPresent opA regsA memory
+
+  abbrev pub presentB : Bool
+  presentB = operandPresent opB regsB memory
+
+  -- no address that it reads is missing: otherwise the run stops before it, "outside"
+  abbrev pub inside : Bool
+  inside = present memory pc && presentA && presentB
+
+  -- (iv) compute, set the permitted flags, store into B
   abbrev pub aluOut : AluOut
   aluOut = alu instruction (m .flags) valueA valueB
 
+  abbrev pub flagsSet : Flags
+  flagsSet = flagsAfter instruction (m .flags) aluOut
+
   abbrev pub isStored : Bool
   isStored = stores instruction (m .flags)
+
+  abbrev pub storesToMemory : Bool
+  storesToMemory = isStored && inMemory opB
 
   abbrev pub regsStored : List ℕ
   regsStored = cond isStored (storeInRegister opB (aluOut .result) regsB) regsB
@@ -64,15 +92,14 @@ module _ (memory : List ℕ) (m : Machine) where
 
   -- (v) and (vi) step A, then B up
   abbrev pub nextMachine : Machine
-  nextMachine =
-      record { regs = stepUp opB (stepUp opA regsStored); flags = flagsAfter instruction (m .flags) aluOut }
+  nextMachine = record { regs = stepUp opB (stepUp opA regsStored); flags = flagsSet }
 
   -- clocks without waits, and the number of accesses
   abbrev pub baseClocks : ℕ
-  baseClocks = 8 + asNumber (inMemory opA) + asNumber (inMemory opB) + asNumber isStored
+  baseClocks = costOf (inMemory opA) (inMemory opB) isStored
 
   abbrev pub accesses : ℕ
-  accesses = 1 + asNumber (inMemory opA) + asNumber (inMemory opB) + asNumber (isStored && inMemory opB)
+  accesses = accessesOf (inMemory opA) (inMemory opB) isStored
 
 -- ---- the run of n instructions
 

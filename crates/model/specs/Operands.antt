@@ -1,4 +1,5 @@
--- Operands: decoding, the register's step before and after the access, the operand's address and value. Document 01, "Machine and instruction word", modes and (ii), (iii), (v), (vi).
+-- Operands: decoding, the register's step before and after the access, the operand's address and value. Document 01, "Machine and
+-- instruction word", modes and (ii), (iii), (v), (vi).
 use Prim.Native.Nat.{ℕ, _%_}
 use mathlib.Core.Bool.{Bool, true, false, not, cond, _||_}
 use mathlib.Core.List.{List, [], _∷_}
@@ -7,7 +8,7 @@ use Rattle.model.specs.declared.Operand.{Operand}
 use Rattle.model.specs.declared.Operand.the-variants.{Direct, Indirect, Before, After}
 use Rattle.model.specs.Words.{inc, dec, field, wordAt, present, storeWord}
 
--- the modes 0, 1 and 2, and 3
+-- the modes: 0 direct, 1 indirect, 2 indirect after decrement (the register steps down before), 3 indirect then increment (it steps up after)
 abbrev pub operand : (mode register : ℕ) → Operand
 operand mode register =
     getD (Direct register ∷ Indirect register ∷ Before register ∷ []) mode (After register)

@@ -1,8 +1,18 @@
--- The four flags as the bits of one number, in the order in which an instruction word permits them: Z, N, V, C from bit 0. Document 01, "Machine and instruction word".
+-- The four flags as four numbers, and as the bits of one number in the order in which an instruction word permits them: Z, N, V, C from bit
+-- 0. Document 01, "Machine and instruction word".
 use Prim.Native.Nat.{ℕ, _+_, _*_}
+use mathlib.Core.Bool.{false}
+use mathlib.Core.List.{List, [], _∷_}
 use Rattle.arithmetic.specs.Words.{asNumber}
 use Rattle.model.specs.declared.Flags.{Flags}
 use Rattle.model.specs.Words.{bit}
+
+abbrev pub noFlags : Flags
+noFlags = record { carry = false; overflow = false; negative = false; zero = false }
+
+-- C, V, N, Z, each as 0 or 1
+abbrev pub flagNumbers : Flags → List ℕ
+flagNumbers f = asNumber (f .carry) ∷ asNumber (f .overflow) ∷ asNumber (f .negative) ∷ asNumber (f .zero) ∷ []
 
 unfoldable pub packedOf : Flags → ℕ
 packedOf f = 8 * asNumber (f .carry) + 4 * asNumber (f .overflow) + 2 * asNumber (f .negative) + asNumber (f .zero)

@@ -1,4 +1,5 @@
--- Why a call is turned down: the reasons' numbers, the limits, and the first reason that applies to each run. Document 01, "Why a call is turned down".
+-- Why a call is turned down: the reasons' numbers, the limits, and the first reason that applies to each run. Document 01, "Why a call is
+-- turned down".
 use Prim.Native.Nat.{ℕ, _*_}
 use mathlib.Core.Bool.{Bool, true, false, cond, _&&_}
 use mathlib.Core.List.{List}

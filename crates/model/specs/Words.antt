@@ -1,19 +1,21 @@
--- Words of 32 bits as natural numbers: steps that go round at 2^32, bit fields, a list as registers or memory. Document 01, "Machine and instruction word".
+-- Words of 32 bits as natural numbers: steps that go round at 2^32, bit fields, a list as registers or memory. Document 01, "Machine and
+-- instruction word".
 use Prim.Native.Nat.{ℕ, _+_, _-_, _/_, _%_, _^_}
 use mathlib.Core.Bool.{Bool}
-use mathlib.Core.List.{List}
+use mathlib.Core.List.{List, _++_}
 use lib.Dec.{eqb, ltb}
-use lib.ListN.{length, getD, set}
+use lib.ListN.{length, getD, set, drop}
 
--- how many words there are; register arithmetic goes round here
-abbrev pub wordCount : ℕ
-wordCount = 2 ^ 32
+-- register arithmetic goes round here
+abbrev pub wordValues : ℕ
+wordValues = 2 ^ 32
 
+-- a register stepped up, and down
 abbrev pub inc : ℕ → ℕ
-inc w = (w + 1) % wordCount
+inc w = (w + 1) % wordValues
 
 abbrev pub dec : ℕ → ℕ
-dec w = (w + (wordCount - 1)) % wordCount
+dec w = (w + (wordValues - 1)) % wordValues
 
 -- the `size` bits of w from bit `low` up
 unfoldable pub field : ℕ → ℕ → ℕ → ℕ
@@ -26,9 +28,13 @@ bit w i = eqb (field w i 1) 1
 abbrev pub wordAt : List ℕ → ℕ → ℕ
 wordAt words i = getD words i 0
 
--- whether a memory has an address, and the memory with the word there stored
+-- whether a memory has an address, and the memory with the word there stored; an absent address changes nothing
 abbrev pub present : List ℕ → ℕ → Bool
 present memory address = ltb address (length memory)
 
 abbrev pub storeWord : List ℕ → ℕ → ℕ → List ℕ
 storeWord memory address word = set memory address word
+
+-- words laid over the front of a list, whose other places stay
+abbrev pub overlay : List ℕ → List ℕ → List ℕ
+overlay front words = front ++ drop (length front) words

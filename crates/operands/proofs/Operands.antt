@@ -1,10 +1,9 @@
--- Laws on operands and words: a register is one of eight; an absent word reads as 0, and storing it changes nothing.
-use Prim.Native.Nat.{ℕ, zero, suc, _<_, _≤_}
-use mathlib.Core.Path.{_≡_, refl, sym, ap}
+-- Laws on operands and words: a register is one of eight; an absent word reads as 0.
+use Prim.Native.Nat.{ℕ, _<_, _≤_}
+use mathlib.Core.Path.{_≡_, sym}
 use mathlib.Core.List.{List, [], _∷_}
-use native.Mathlib.Nat.{not-suc-le-zero, le-of-suc-le-suc}
 use native.Mathlib.Omega.{arith}
-use lib.ListN.{length, set, List·getD-eq-default}
+use lib.ListN.{length, List·getD-eq-default}
 use Rattle.model.specs.declared.Operand.{Operand}
 use Rattle.model.specs.declared.Operand.the-variants.{Direct, Indirect, Before, After}
 use Rattle.model.specs.Words.{wordAt}
@@ -15,11 +14,6 @@ after mode r h = sym (List·getD-eq-default (Direct r ∷ Indirect r ∷ Before 
 
 pub absent : (l : List ℕ) (i : ℕ) → length l ≤ i → 0 ≡ wordAt l i
 absent l i h = sym (List·getD-eq-default l 0 {n = i} h)
-
-pub set-absent : (l : List ℕ) (i x : ℕ) → length l ≤ i → l ≡ set l i x
-set-absent [] i x h = refl
-set-absent (y ∷ l) zero x h = absurd (not-suc-le-zero h)
-set-absent (y ∷ l) (suc i) x h = ap (λ (t : List ℕ). y ∷ t) (set-absent l i x (le-of-suc-le-suc h))
 
 -- an operand's register is one of eight
 pub register-small : (o : Operand) → registerOf o < 8

@@ -14,6 +14,7 @@ fn decoded(mode: u32, register: u8) -> Operand
     }
 }
 
+// Register A stands from bit 0 on; it is divided by 1, so that it is read as the other fields are.
 pub fn operand_a(word: u32) -> Operand
     ensures { λ r. ⌜ r ≡ operandA word ⌝ }
 {

@@ -1,5 +1,7 @@
 // What a gate run asks of the access in hand.
 use model::GateState;
+use step_table::ACCESS;
+use step_table::LAST_ROW;
 use step_table::steps;
 ghost use mathlib.Core.Path.{_≡_};
 ghost use Rattle.model.specs.Gates.{isAccess};
@@ -9,10 +11,10 @@ ghost use Rattle.model.specs.Refusals.{accessFits};
 fn is_access(row: u8) -> bool
     ensures { λ r. ⌜ r ≡ isAccess row ⌝ }
 {
-    if row < 12 {
+    if row <= LAST_ROW {
         let table = steps();
         let step = table[row as usize];
-        return step.3 == 1;
+        return step.3 == ACCESS;
     }
     false
 }

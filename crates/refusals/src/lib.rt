@@ -5,8 +5,16 @@ use gate_state::access_fits;
 use model::GateState;
 use model::Refusal;
 use model::Verdict;
+use step_table::LAST_ROW;
 ghost use mathlib.Core.Path.{_≡_};
 ghost use Rattle.model.specs.Refusals.{refusalNumber, demand, _then_, memoryFits, waitsFit, stateFits, journalFits, runVerdict, fileVerdict, gateVerdict};
+
+// The most words of a memory, entries of a wait list, and instructions of a file run.
+pub const MOST_WORDS: usize = 16_777_216;
+
+const MOST_WAITS: usize = 65_536;
+
+const MOST_INSTRUCTIONS: u32 = 65_536;
 
 // Document 01's number of a refusal, 1 to 15.
 pub fn refusal_number(why: Refusal) -> u32
@@ -59,7 +67,7 @@ pub fn memory_fits(memory: &[u32]) -> Verdict
     let words = memory.len();
     then(
         demand(0 < words, Refusal::NoWords),
-        demand(words <= 16_777_216, Refusal::TooManyWords),
+        demand(words <= MOST_WORDS, Refusal::TooManyWords),
     )
 }
 
@@ -67,7 +75,7 @@ pub fn memory_fits(memory: &[u32]) -> Verdict
 fn waits_fit(waits: &[u16]) -> Verdict
     ensures { λ r. ⌜ r ≡ waitsFit (now (waits .entry)) ⌝ }
 {
-    demand(waits.len() <= 65_536, Refusal::LongWaitList)
+    demand(waits.len() <= MOST_WAITS, Refusal::LongWaitList)
 }
 
 // 4.
@@ -75,7 +83,7 @@ fn state_fits(s: GateState) -> Verdict
     ensures { λ r. ⌜ r ≡ stateFits s ⌝ }
 {
     demand(
-        (s.row <= 11) & (s.position <= 65_536) & access_fits(s),
+        (s.row <= LAST_ROW) & (s.position as usize <= MOST_WAITS) & access_fits(s),
         Refusal::BadGateState,
     )
 }
@@ -86,7 +94,7 @@ fn journal_fits(journal: &[u32], count: u32) -> Verdict
 {
     let places = 2 * (count as usize);
     then(
-        demand(count <= 65_536, Refusal::TooManyInstructions),
+        demand(count <= MOST_INSTRUCTIONS, Refusal::TooManyInstructions),
         demand(places <= journal.len(), Refusal::ShortJournal),
     )
 }

@@ -17,7 +17,7 @@ pub fn register_word(o: Operand, regs: &[u32; 8]) -> u32
 
 // Puts a word into an operand's register.
 pub fn set_register(o: Operand, x: u32, regs: &mut [u32; 8])
-    ensures { λ r. ⌜ now (regs .exit) ≡ set (now (regs .entry)) (registerOf o) x ⌝ }
+    ensures { λ _. ⌜ now (regs .exit) ≡ set (now (regs .entry)) (registerOf o) x ⌝ }
 {
     let i = register_of(o) as usize;
     regs[i] = x;
@@ -48,7 +48,7 @@ pub fn step_pc(regs: &mut [u32; 8])
 
 // Before the access: mode 2.
 pub fn step_down(o: Operand, regs: &mut [u32; 8])
-    ensures { λ r. ⌜ now (regs .exit) ≡ stepDown o (now (regs .entry)) ⌝ }
+    ensures { λ _. ⌜ now (regs .exit) ≡ stepDown o (now (regs .entry)) ⌝ }
 {
     match o {
         Operand::Direct(_) => {}
@@ -60,7 +60,7 @@ pub fn step_down(o: Operand, regs: &mut [u32; 8])
 
 // After the access: mode 3.
 pub fn step_up(o: Operand, regs: &mut [u32; 8])
-    ensures { λ r. ⌜ now (regs .exit) ≡ stepUp o (now (regs .entry)) ⌝ }
+    ensures { λ _. ⌜ now (regs .exit) ≡ stepUp o (now (regs .entry)) ⌝ }
 {
     match o {
         Operand::Direct(_) => {}

@@ -88,12 +88,6 @@ puts-register f x pairs regs memory journal e m q =
 -- ---- the fetch, and the whole instruction
 
 module _ (memory regs : List ℕ) where
-  abbrev hasA : Bool
-  hasA = operandPresent (I.opA memory (bare regs)) (I.regsA memory (bare regs)) memory
-
-  abbrev hasB : Bool
-  hasB = operandPresent (I.opB memory (bare regs)) (I.regsB memory (bare regs)) memory
-
   pub none : {regs′ : List ℕ} {f : Fetched} → I.inside memory (bare regs) ≡ false → f ≡ nothing → regs′ ≡ regs → Fetches memory regs regs′ f
   none h e p =
       record {
@@ -117,19 +111,19 @@ module _ (memory regs : List ℕ) where
   fetched-eq e p q r s = rw (e, p, q, r, s)
 
   pub outside-pc : present memory (wordAt regs 0) ≡ false → I.inside memory (bare regs) ≡ false
-  outside-pc p = ap (λ (t : Bool). t && hasA && hasB) p
+  outside-pc p = ap (λ (t : Bool). t && I.presentA memory (bare regs) && I.presentB memory (bare regs)) p
 
   pub outside-a : {t : Taken} → present memory (wordAt regs 0) ≡ true → t ≡ takenOf (I.opA memory (bare regs)) (I.regsA memory (bare regs)) memory
       → t .present ≡ false → I.inside memory (bare regs) ≡ false
-  outside-a p e q = ap (λ (t : Bool). t && hasA && hasB) p ∙ ap (λ (t : Bool). t && hasB) (sym (ap (λ (t : Taken). t .present) e) ∙ q)
+  outside-a p e q = ap (λ (t : Bool). t && I.presentA memory (bare regs) && I.presentB memory (bare regs)) p ∙ ap (λ (t : Bool). t && I.presentB memory (bare regs)) (sym (ap (λ (t : Taken). t .present) e) ∙ q)
 
   pub with-b : {t u : Taken} {v : Bool} → present memory (wordAt regs 0) ≡ true
       → t ≡ takenOf (I.opA memory (bare regs)) (I.regsA memory (bare regs)) memory → t .present ≡ true
       → u ≡ takenOf (I.opB memory (bare regs)) (I.regsB memory (bare regs)) memory → u .present ≡ v
       → I.inside memory (bare regs) ≡ v
   with-b p e q f r =
-      ap (λ (t : Bool). t && hasA && hasB) p
-      ∙ ap (λ (t : Bool). t && hasB) (sym (ap (λ (t : Taken). t .present) e) ∙ q)
+      ap (λ (t : Bool). t && I.presentA memory (bare regs) && I.presentB memory (bare regs)) p
+      ∙ ap (λ (t : Bool). t && I.presentB memory (bare regs)) (sym (ap (λ (t : Taken). t .present) e) ∙ q)
       ∙ (sym (ap (λ (t : Taken). t .present) f) ∙ r)
 
   -- the fetch says whether the instruction runs

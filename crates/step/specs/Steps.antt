@@ -1,6 +1,7 @@
--- One instruction as the code does it in parts, and as a whole: what each part leaves, from the definitions of model. Document 01, "Machine and instruction word", the order (i) to (vi).
+-- One instruction as the code does it in parts, and as a whole: what each part leaves, from the definitions of model. Document 01, "Machine
+-- and instruction word", the order (i) to (vi).
 -- Flags go in and out packed; a store to memory is noted in a journal (document 01, "File run and journal").
-use Prim.Native.Nat.{ℕ, _+_, _*_}
+use Prim.Native.Nat.{ℕ}
 use mathlib.Core.Path.{_≡_}
 use mathlib.Core.Bool.{Bool, true, false, cond, _&&_}
 use mathlib.Core.List.{List}
@@ -11,8 +12,9 @@ use Rattle.model.specs.declared.Operand.the-variants.{Direct}
 use Rattle.model.specs.Words.{inc, storeWord}
 use Rattle.model.specs.Operands.{inMemory, stepDown, stepUp, registerWord, operandPresent, operandValue, storeInRegister}
 use Rattle.model.specs.Alu.{alu, flagsAfter, stores}
-use Rattle.model.specs.Interpreter.{instruction, opA, opB, regsB, valueA, valueB, inside, isStored, nextMemory, nextMachine}
-use Rattle.model.specs.Packed.{packedOf, flagsOf}
+use Rattle.model.specs.Interpreter.{instruction, opA, opB, regsB, valueA, valueB, addressB, inside, isStored, storesToMemory, nextMemory, nextMachine}
+use Rattle.model.specs.Journal.{noted}
+use Rattle.model.specs.Packed.{noFlags, packedOf, flagsOf}
 use Rattle.step.specs.declared.take.Taken.{Taken}
 use Rattle.step.specs.declared.fetch.Fetched.{Fetched}
 use Rattle.step.specs.declared.Stepped.{Stepped}
@@ -36,7 +38,7 @@ machine regs flags = record { regs = regs; flags = flags }
 -- ---- (i) to (iii), which look at no flag
 
 abbrev pub bare : List ℕ → Machine
-bare regs = machine regs (record { carry = false; overflow = false; negative = false; zero = false })
+bare regs = machine regs noFlags
 
 abbrev pub nothing : Fetched
 nothing = record { inside = false; word = 0; oa = Direct 0; ob = Direct 0; a = 0; b = 0; place = 0 }
@@ -51,7 +53,7 @@ fetchedOf memory regs =
       ob = opB memory m;
       a = valueA memory m;
       b = valueB memory m;
-      place = registerWord (opB memory m) (regsB memory m);
+      place = addressB memory m;
     }
 
 pub record Fetches (memory regs regs′ : List ℕ) (f : Fetched) : Type 0 where
@@ -59,10 +61,6 @@ pub record Fetches (memory regs regs′ : List ℕ) (f : Fetched) : Type 0 where
   pub registers : regs′ ≡ cond (inside memory (bare regs)) (regsB memory (bare regs)) regs
 
 -- ---- (iv) to (vi)
-
--- pair number `pairs` of the journal, at its places 2 * pairs and 2 * pairs + 1
-abbrev pub noted : List ℕ → ℕ → ℕ → ℕ → List ℕ
-noted journal pairs place former = storeWord (storeWord journal (2 * pairs) place) (2 * pairs + 1) former
 
 pub record Notes (journal : List ℕ) (pairs place former : ℕ) (journal′ : List ℕ) (r : ℕ) : Type 0 where
   pub places : journal′ ≡ noted journal pairs place former
@@ -98,14 +96,11 @@ pub record Finishes (regs memory journal : List ℕ) (pairs flags : ℕ) (f : Fe
 
 -- ---- one instruction
 
--- whether it stores to memory, and the journal then
-abbrev pub kept : List ℕ → Machine → Bool
-kept memory m = isStored memory m && inMemory (opB memory m)
-
+-- the journal after it
 abbrev pub journaled : List ℕ → Machine → List ℕ → ℕ → List ℕ
 journaled memory m journal pairs =
-    cond (kept memory m)
-    (noted journal pairs (registerWord (opB memory m) (regsB memory m)) (valueB memory m))
+    cond (storesToMemory memory m)
+    (noted journal pairs (addressB memory m) (valueB memory m))
     journal
 
 abbrev pub stoppedAt : ℕ → ℕ → Stepped
@@ -119,7 +114,7 @@ steppedOf memory m pairs =
       oa = opA memory m;
       ob = opB memory m;
       stored = isStored memory m;
-      pairs = cond (kept memory m) (inc pairs) pairs;
+      pairs = cond (storesToMemory memory m) (inc pairs) pairs;
     }
 
 pub record Steps (regs memory journal : List ℕ) (pairs flags : ℕ) (regs′ memory′ journal′ : List ℕ) (s : Stepped) : Type 0 where

@@ -1,31 +1,28 @@
 -- The table, row by row, and its mark of an access.
-use Prim.Native.Nat.{ℕ, zero, suc, _+_, _-_, _≤_, _<_}
-use mathlib.Core.Path.{_≡_, refl, sym, ap, _∙_}
+use Prim.Native.Nat.{ℕ, zero, suc, _-_, _≤_, _<_}
+use mathlib.Core.Path.{_≡_, refl, ap, _∙_}
 use mathlib.Core.Bool.{false}
-use mathlib.Core.List.{List}
-use native.Mathlib.Nat.{le-of-suc-le-suc, not-suc-le-zero, add-zero, add-suc}
+use mathlib.Core.List.{List, [], _∷_}
+use native.Mathlib.Nat.{le-of-suc-le-suc, not-suc-le-zero}
 use native.Mathlib.Omega.{arith}
-use lib.ListN.{getD}
+use lib.ListN.{length, getD}
 use Rattle.model.specs.Gates.{isAccess}
 use Rattle.step_table.specs.declared.Step.{Step}
-use Rattle.step_table.specs.Table.{stepOf, stepsFrom, stepTable, accesses}
+use Rattle.step_table.specs.Table.{stepOf, stepTable, accesses}
 
-at : (k r n : ℕ) → k < n → (d : Step) → getD (stepsFrom r n) k d ≡ stepOf (k + r)
-at k r zero h d = absurd (not-suc-le-zero h)
-at zero r (suc n) h d = ap stepOf (sym (zero-plus r))
-  where
-    zero-plus : (m : ℕ) → 0 + m ≡ m
-    zero-plus m = rw native.Mathlib.Nat.zero-add
-at (suc k) r (suc n) h d = at k (suc r) n (le-of-suc-le-suc h) d ∙ ap stepOf (rw (native.Mathlib.Nat.suc-add, add-suc))
+there : (l : List Step) (i : ℕ) → i < length l → (d e : Step) → getD l i d ≡ getD l i e
+there [] i h d e = absurd (not-suc-le-zero h)
+there (x ∷ l) zero h d e = refl
+there (x ∷ l) (suc i) h d e = there l i (le-of-suc-le-suc h) d e
 
 -- a row's place in the table has its step
 pub step-there : {table : List Step} → table ≡ stepTable → {i r : ℕ} → i ≡ r → r < 12 → (d : Step) → getD table i d ≡ stepOf r
-unfolding stepTable
-step-there p {i} {r} e h d = rw (p, e) (at r 0 12 h d ∙ ap stepOf (add-zero r))
+unfolding stepOf stepTable
+step-there p {i} {r} e h d = rw (p, e) (there stepTable r h d (r, r, r, 0))
 
 -- a row's mark says whether it is an access
 pub access-mark : (r : ℕ) → accesses (stepOf r) ≡ isAccess r
-unfolding stepOf isAccess
+unfolding stepOf stepTable isAccess
 access-mark zero = refl
 access-mark (suc zero) = refl
 access-mark (suc (suc zero)) = refl

@@ -1,41 +1,32 @@
--- The step table, read off the model's rows: where each row leads, and its control marks. Document 01, "Clocks".
-use Prim.Native.Nat.{ℕ, zero, suc, _+_, _*_}
-use mathlib.Core.Bool.{Bool, true, false}
+-- The step table: where each row leads, and its control marks. Document 01, "Clocks", the table of twelve rows.
+use Prim.Native.Nat.{ℕ}
+use mathlib.Core.Bool.{Bool}
 use mathlib.Core.List.{List, [], _∷_}
 use lib.Dec.{eqb}
 use lib.ListN.{getD}
-use Rattle.arithmetic.specs.Words.{asNumber}
-use Rattle.model.specs.declared.Flags.{Flags}
-use Rattle.model.specs.Words.{field, bit}
-use Rattle.model.specs.Operands.{operandA, operandB}
-use Rattle.model.specs.Alu.{isMove, operation, stores}
-use Rattle.model.specs.Gates.{withRow, withInstruction, atRest, Gate, gate, rows, isAccess}
 use Rattle.step_table.specs.declared.Step.{Step}
 
--- a machine in row r, with an instruction and the carry; all else is 0
-abbrev pub probe : ℕ → ℕ → Bool → Gate
-probe r word carry =
-    let flags : Flags = record { carry = carry; overflow = false; negative = false; zero = false } in
-    gate (withRow r (withInstruction word (atRest (0 ∷ 0 ∷ 0 ∷ 0 ∷ 0 ∷ 0 ∷ 0 ∷ 0 ∷ []) flags))) [] 0
-
--- the model's row r on it
-abbrev pub probed : ℕ → ℕ → Bool → Gate
-probed r word carry = getD rows r (λ g. g) (probe r word carry)
-
--- both operands in memory, both direct, and a move that its condition keeps from storing; marks: 1 for an access, 2 where an instruction finishes
-unfoldable pub stepOf : ℕ → Step
-unfolding field bit operandA operandB isMove operation stores isAccess
-stepOf r =
-    (probed r 0x0108 false .state .row, probed r 0 false .state .row, probed r 0x8108 true .state .row, asNumber (isAccess r) + 2 * probed r 0 false .finished)
-
--- n rows from r on
-abbrev pub stepsFrom : (r n : ℕ) → List Step
-stepsFrom r zero = []
-stepsFrom r (suc n) = stepOf r ∷ stepsFrom (suc r) n
-
--- the twelve rows
+-- For each row: the next row where an operand is in memory, where it is direct, and where nothing is stored; a row that does not ask has
+-- one next row. Marks: 1 for an access, 2 where an instruction finishes.
 unfoldable pub stepTable : List Step
-stepTable = stepsFrom 0 12
+stepTable =
+    (1, 1, 1, 0)  -- 0
+    ∷ (2, 2, 2, 1)  -- 1
+    ∷ (3, 3, 3, 0)  -- 2
+    ∷ (4, 5, 4, 0)  -- 3
+    ∷ (5, 5, 5, 1)  -- 4
+    ∷ (6, 7, 6, 0)  -- 5
+    ∷ (7, 7, 7, 1)  -- 6
+    ∷ (9, 8, 10, 0)  -- 7
+    ∷ (10, 10, 10, 0)  -- 8
+    ∷ (10, 10, 10, 1)  -- 9
+    ∷ (11, 11, 11, 0)  -- 10
+    ∷ (0, 0, 0, 2)  -- 11
+    ∷ []
+
+-- the step of row r; past the table a row leads to itself
+unfoldable pub stepOf : ℕ → Step
+stepOf r = getD stepTable r (r, r, r, 0)
 
 -- ---- the parts of a step
 

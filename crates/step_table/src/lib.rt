@@ -2,25 +2,31 @@
 ghost use mathlib.Core.Path.{_≡_};
 ghost use Rattle.step_table.specs.Table.{stepTable};
 
-// A row of the table: the next row where an operand is in memory, where it is direct and where nothing is stored; marks.
-// Marks: 1, the row is an access; 2, an instruction finishes.
+pub const LAST_ROW: u8 = 11;
+
+// Marks: the row is an access; an instruction finishes.
+pub const ACCESS: u8 = 1;
+
+pub const FINISHES: u8 = 2;
+
+// A row of the table: the next row where an operand is in memory, where it is direct and where nothing is stored; its mark.
 pub struct Step(pub u8, pub u8, pub u8, pub u8);
 
 pub type Table = [Step; 12];
 
 const STEPS: Table = [
     Step(1, 1, 1, 0),
-    Step(2, 2, 2, 1),
+    Step(2, 2, 2, ACCESS),
     Step(3, 3, 3, 0),
     Step(4, 5, 4, 0),
-    Step(5, 5, 5, 1),
+    Step(5, 5, 5, ACCESS),
     Step(6, 7, 6, 0),
-    Step(7, 7, 7, 1),
+    Step(7, 7, 7, ACCESS),
     Step(9, 8, 10, 0),
     Step(10, 10, 10, 0),
-    Step(10, 10, 10, 1),
+    Step(10, 10, 10, ACCESS),
     Step(11, 11, 11, 0),
-    Step(0, 0, 0, 2),
+    Step(0, 0, 0, FINISHES),
 ];
 
 pub fn steps() -> Table

@@ -40,7 +40,7 @@ unfolding places
 places-one zero n h = refl
 places-one (suc turns) n h = rw (lt-ltb n 10 h)
 
-pub places-more : (turns n : ℕ) → 10 ≤ n → places (suc turns) n ≡ suc (places turns (n / 10))
+places-more : (turns n : ℕ) → 10 ≤ n → places (suc turns) n ≡ suc (places turns (n / 10))
 unfolding places
 places-more turns n h = rw (le-ltb n 10 h)
 

@@ -13,7 +13,7 @@ sets-out out at [] h = refl
 sets-out out at (x ∷ text) h = sets-out (set out at x) (suc at) text (simp length-set (omega arith)) ∙ set-out out at x h
 
 -- a byte further on may be put in first
-pub set-first : (out : List ℕ) (at : ℕ) (text : List ℕ) (i x : ℕ) → at + length text ≤ i → sets (set out i x) at text ≡ set (sets out at text) i x
+set-first : (out : List ℕ) (at : ℕ) (text : List ℕ) (i x : ℕ) → at + length text ≤ i → sets (set out i x) at text ≡ set (sets out at text) i x
 set-first out at [] i x h = refl
 set-first out at (y ∷ text) i x h =
     ap (λ (l : List ℕ). sets l (suc at) text) (set-comm out i at x y (λ e. omega arith))

@@ -6,7 +6,7 @@ ghost use lib.Seq.{sets};
 ghost use Rattle.text.specs.Text.{digit, digits, places};
 
 pub fn put_byte(out: &mut [u8], at: usize, byte: u8)
-    ensures { λ r. ⌜ now (out .exit) ≡ set (now (out .entry)) at byte ⌝ }
+    ensures { λ _. ⌜ now (out .exit) ≡ set (now (out .entry)) at byte ⌝ }
 {
     if at < out.len() {
         out[at] = byte;
@@ -27,7 +27,7 @@ fn digit_of(d: u64) -> u8
 // The last count digits of n, from the lowest up.
 pub fn put_digits(out: &mut [u8], at: usize, base: u64, count: usize, n: u64)
     requires { ⌜ (0 < base) × (base ≤ 16) × (count ≤ 20) ⌝ }
-    ensures { λ r. ⌜ now (out .exit) ≡ sets (now (out .entry)) at (digits base count n) ⌝ }
+    ensures { λ _. ⌜ now (out .exit) ≡ sets (now (out .entry)) at (digits base count n) ⌝ }
 {
     if at < out.len() {
         let mut left = count;

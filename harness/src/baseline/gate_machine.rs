@@ -2,7 +2,7 @@
 
 use super::gate_unit::gate_unit;
 use super::operand::{Operand, DIRECT};
-use super::FINISHED;
+use fm8502::library::DONE;
 
 #[derive(Clone, Copy)]
 struct State {
@@ -41,7 +41,7 @@ pub fn gate_run(
     }
     state.give(words);
     result[0] = finished;
-    FINISHED
+    DONE
 }
 
 impl State {

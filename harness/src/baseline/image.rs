@@ -1,6 +1,6 @@
 //! Images in Rust, written for speed: whole fields at once.
 
-use super::FINISHED;
+use fm8502::library::DONE;
 
 const FIELD_WORDS: usize = 1_024;
 /// Where the registers, the flags, the word count and the first words stand.
@@ -27,7 +27,7 @@ pub fn image_write(memory: &[u32], machine: &[u32], out: &mut [u8], result: &mut
     }
     out[at..at + 3].copy_from_slice(&[0xFF, 0, 0]);
     result[0] = at as u64 + 3;
-    FINISHED
+    DONE
 }
 
 fn put_words(words: &[u32], out: &mut [u8]) {
@@ -56,7 +56,7 @@ pub fn image_read(
         get_words(&field[3..], cells);
     }
     result[0] = words as u64;
-    FINISHED
+    DONE
 }
 
 fn check_headers(bytes: &[u8], words: usize) {

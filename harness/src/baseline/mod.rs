@@ -65,14 +65,10 @@ pub const CONTENDERS: [Contender; 4] = [
     },
 ];
 
-/// Codes of calls that were carried out.
-const FINISHED: u32 = 0;
-const STOPPED: u32 = 100;
-
 fn code(finished: bool) -> u32 {
     if finished {
-        FINISHED
+        library::DONE
     } else {
-        STOPPED
+        library::STOPPED
     }
 }

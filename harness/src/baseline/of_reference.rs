@@ -1,7 +1,8 @@
 //! The reference emulator behind the library's calls on words.
 
-use super::{code, FINISHED};
+use super::code;
 use crate::words::{machine_of, machine_words, state_of, state_words};
+use fm8502::library::DONE;
 use reference::{image, Answer, FileAnswer, Refusal};
 
 fn number(refusal: Refusal) -> u32 {
@@ -50,21 +51,21 @@ pub fn gate_run(
     let ran = reference::gate_run(memory, waits, state_of(words), clocks);
     words.copy_from_slice(&state_words(&ran.state));
     result[0] = ran.finished;
-    ran.answer.map_or_else(number, |()| FINISHED)
+    ran.answer.map_or_else(number, |()| DONE)
 }
 
 pub fn image_read(bytes: &[u8], memory: &mut [u32], words: &mut [u32], result: &mut [u64]) -> u32 {
     let loaded = image::read(bytes, memory);
     words.copy_from_slice(&machine_words(&loaded.machine));
     result[0] = u64::from(loaded.words);
-    loaded.answer.map_or_else(number, |()| FINISHED)
+    loaded.answer.map_or_else(number, |()| DONE)
 }
 
 pub fn image_write(memory: &[u32], words: &[u32], out: &mut [u8], result: &mut [u64]) -> u32 {
     match image::write(&machine_of(words), memory, out) {
         Ok(size) => {
             result[0] = size as u64;
-            FINISHED
+            DONE
         }
         Err(refusal) => number(refusal),
     }

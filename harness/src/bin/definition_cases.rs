@@ -2,10 +2,11 @@
 //! states with the reference emulator's results, for the prover to compute the
 //! definitions on.
 
+use harness::words::flag_number;
 use reference::generate::program::{any_program, Program};
 use reference::generate::state::gate_state;
 use reference::rng::Rng;
-use reference::{file_run, gate_run, run, Answer, Flags, GateState};
+use reference::{file_run, gate_run, run, Answer, GateState};
 use std::fmt::Write;
 
 const SEED: u64 = 8502;
@@ -114,12 +115,6 @@ fn latches(s: &GateState) -> String {
         u32::from(s.begun),
         u32::from(s.left),
     ])
-}
-
-fn flag_number(f: Flags) -> u32 {
-    f.to_array()
-        .iter()
-        .fold(0, |n, &bit| 2 * n + u32::from(bit))
 }
 
 fn numbers(list: &[u16]) -> String {

@@ -73,9 +73,9 @@ fn check_refusals(seed: u64) {
         refusals::check(&mut Rng::new(seed)),
         &format!("refusals, --seed {seed}"),
     );
-    let misfits = settle(misfits::check(), "forms");
+    let misfits = settle(misfits::check(), "lengths");
     settle(limits::check(), "limits");
     println!(
-        "{refused} calls with reasons to refuse, {misfits} of a bad form and the limits agree"
+        "{refused} calls with reasons to refuse, {misfits} of a wrong length and the limits agree"
     );
 }

@@ -1,9 +1,9 @@
 //! A case as the words of the program's input.
 
 use super::Case;
-use crate::words::state_words;
+use crate::words::{flag_number, state_words};
 use reference::generate::program::Program;
-use reference::{Flags, GateState, Machine};
+use reference::{GateState, Machine};
 
 pub fn input(cases: &[Case]) -> Vec<u8> {
     let mut words = Vec::new();
@@ -64,9 +64,4 @@ fn put_waits(words: &mut Vec<u32>, waits: &[u16]) {
 fn put_machine(words: &mut Vec<u32>, machine: &Machine) {
     words.extend(machine.registers);
     words.push(flag_number(machine.flags));
-}
-
-fn flag_number(flags: Flags) -> u32 {
-    let bits = flags.to_array().map(u32::from);
-    bits.iter().fold(0, |number, bit| 2 * number + bit)
 }

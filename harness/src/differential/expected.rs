@@ -1,19 +1,20 @@
 //! The outcomes that the reference emulator gives for the same calls.
 
 use super::lent::guard;
-use super::outcome::{Outcome, FINISHED, STOPPED};
+use super::outcome::Outcome;
 use crate::words::{machine_words, state_words};
+use fm8502::library::{DONE, STOPPED};
 use reference::{image, Answer, FileAnswer, GateState, Machine, Refusal};
 
 fn code(answer: Result<(), Refusal>) -> u32 {
-    answer.map_or_else(|refusal| u32::from(refusal.number()), |()| FINISHED)
+    answer.map_or_else(|refusal| u32::from(refusal.number()), |()| DONE)
 }
 
 pub fn run(memory: &[u32], waits: &[u16], machine: &Machine, count: u32) -> Outcome {
     let mut outcome = Outcome::as_lent(memory, &machine_words(machine), 2);
     let result = reference::run(&mut outcome.memory, waits, *machine, count);
     outcome.code = match result.answer {
-        Answer::Finished => FINISHED,
+        Answer::Finished => DONE,
         Answer::Outside => STOPPED,
         Answer::Refused(refusal) => code(Err(refusal)),
     };
@@ -30,7 +31,7 @@ pub fn file_run(memory: &[u32], places: usize, machine: &Machine, count: u32) ->
     let journal = &mut outcome.journal;
     let result = reference::file_run(&mut outcome.memory, journal, *machine, count);
     outcome.code = match result.answer {
-        FileAnswer::Finished => FINISHED,
+        FileAnswer::Finished => DONE,
         FileAnswer::Undone => STOPPED,
         FileAnswer::Refused(refusal) => code(Err(refusal)),
     };

@@ -6,7 +6,7 @@ use reference::image::image_size;
 use reference::refusal::MEMORY_LIMIT;
 use reference::Machine;
 
-const TOO_LONG: u32 = 2;
+const TOO_MANY_WORDS: u32 = 2;
 
 pub fn check() -> Check {
     check_longest()?;
@@ -60,7 +60,7 @@ fn check_too_long() -> Check {
         && machine == [0; 12]
         && state == [0; 21]
         && (two, one) == ([7; 2], [7; 1]);
-    if codes == [TOO_LONG; 5] && unchanged {
+    if codes == [TOO_MANY_WORDS; 5] && unchanged {
         return Ok(());
     }
     Err(format!(

@@ -2,13 +2,8 @@
 
 use super::lent::guard;
 use crate::text::{hex_bytes, hex_words};
+use fm8502::library::{DONE, STOPPED};
 use std::fmt;
-
-/// Codes of calls that were carried out.
-pub const FINISHED: u32 = 0;
-pub const STOPPED: u32 = 100;
-/// A machine, state or result of the wrong form.
-pub const MISFIT: u32 = 200;
 
 #[derive(Clone, Debug, PartialEq, Eq)]
 pub struct Outcome {
@@ -28,7 +23,7 @@ impl Outcome {
     /// A call that is to fill `places` of a result, before it is made.
     pub fn as_lent(memory: &[u32], words: &[u32], places: usize) -> Outcome {
         Outcome {
-            code: FINISHED,
+            code: DONE,
             words: words.to_vec(),
             result: vec![guard(); places],
             memory: memory.to_vec(),
@@ -39,7 +34,7 @@ impl Outcome {
     }
 
     pub fn carried_out(&self) -> bool {
-        matches!(self.code, FINISHED | STOPPED)
+        matches!(self.code, DONE | STOPPED)
     }
 }
 

@@ -1,7 +1,7 @@
 //! Generated programs: runs, file runs, and gate runs around the clock total.
 
-use super::outcome::STOPPED;
 use super::{expected, gates, proved, run_case, same, Check};
+use fm8502::library::STOPPED;
 use reference::generate::program::{any_program, Program};
 use reference::rng::Rng;
 

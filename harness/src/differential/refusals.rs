@@ -5,7 +5,7 @@ use reference::generate::program::{program, Kind};
 use reference::generate::state::{gate_state, refused_gate_state};
 use reference::image::image_size;
 use reference::rng::Rng;
-use reference::Machine;
+use reference::{GateState, Machine};
 
 /// No entries, and as many as the list may have, one more, and more.
 const LIST_LENGTHS: [usize; 4] = [0, 65_536, 65_537, 70_000];
@@ -20,6 +20,7 @@ pub fn check(rng: &mut Rng) -> Result<usize, String> {
         for entries in LIST_LENGTHS {
             check_run(memory, &waits[..entries], &good.start)?;
             calls += 1 + check_gate(rng, memory, &waits[..entries])?;
+            calls += check_too_wide(memory, &waits[..entries])?;
         }
         calls += check_file_run(memory, &good.start)?;
         calls += check_write(memory, &good.start)?;
@@ -51,6 +52,32 @@ fn check_gate(rng: &mut Rng, memory: &[u32], waits: &[u16]) -> Result<usize, Str
         })?;
     }
     Ok(STATES)
+}
+
+/// Words that are no row of 8 bits or no clocks left of 16 bits are refused as a row
+/// above 11 is.
+fn check_too_wide(memory: &[u32], waits: &[u16]) -> Result<usize, String> {
+    let bad_row = GateState {
+        row: 255,
+        ..GateState::default()
+    };
+    let mut expected = expected::gate_run(memory, waits, &bad_row, 1);
+    // Row, begun, clocks left.
+    let states = [(256, 0, 0), (0, 0, 65_536), (1, 1, 65_536)];
+    for (row, begun, left) in states {
+        let mut words = [0; 21];
+        (words[12], words[19], words[20]) = (row, begun, left);
+        expected.words = words.to_vec();
+        for proved in [
+            proved::gate_run_on(memory, waits, &words, 1),
+            proved::clock(memory, waits, &words),
+        ] {
+            same("gate run or clock", &proved, &expected, || {
+                run_case(memory, &bad_row.machine(), waits, format!("{words:?}"))
+            })?;
+        }
+    }
+    Ok(2 * states.len())
 }
 
 fn check_file_run(memory: &[u32], start: &Machine) -> Result<usize, String> {

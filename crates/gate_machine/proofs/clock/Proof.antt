@@ -1,6 +1,6 @@
 use mathlib.Core.Path.{ap}
 use borrow.Author.Needs.{needs}
-use Rattle.gate_machine.specs.Outcome.{clockedOf}
+use Rattle.gate_machine.specs.Calls.{clockedOf}
 use Rattle.gate_machine.proofs.clock.Statement.{statement}
 use Rattle.gate_machine.proofs.clock.Tie as tie
 

@@ -7,35 +7,35 @@ use Rattle.gate_machine.proofs.run.Tie as tie
 gate-verdict-requires : tie.Need-gate-verdict-requires
 gate-verdict-requires c κs = search needs
 
+enum-known-verdict : tie.Need-enum-known-verdict
+enum-known-verdict c = search needs
+
 enum-told : tie.Need-enum-told
 enum-told c = search needs
 
 run-clocks-requires : tie.Need-run-clocks-requires
 run-clocks-requires c κs = sym (c .before .before .before .gate-verdict .ensures) ∙ c .before .enum-told .given .1
 
-enum-known-verdict : tie.Need-enum-known-verdict
-enum-known-verdict c = search needs
-
 same-length : tie.Need-same-length
 same-length c = search needs
 
 returns : tie.Need-returns
-returns c = accepted (c .before .before .before .before .before .before .before .before .before .before .before .args .memory .now) (c .before .before .before .before .before .before .before .before .before .before .before .args .waits .now) (c .before .before .before .before .before .before .before .before .before .before .before .args .start) (c .before .before .before .before .before .before .before .before .before .before .before .args .clocks) (c .before .before .before .before .before .before .before .gate-verdict .result) (c .before .before .before .before .before .before .before .gate-verdict .ensures) (c .before .before .before .before .before .enum-told .given .1) (c .before .before .before .run-clocks .result .state) (c .before .before .before .run-clocks .last .0) (c .before .before .before .run-clocks .result .finished) (c .before .before .before .run-clocks .ensures)
+returns c = turned-down (c .before .before .before .before .before .before .before .args .memory .now) (c .before .before .before .before .before .before .before .args .waits .now) (c .before .before .before .before .before .before .before .args .start) (c .before .before .before .before .before .before .before .args .clocks) (c .before .before .before .gate-verdict .result) (c .before .before .before .gate-verdict .ensures) (c .before .verdict .given .0 .0) (c .before .verdict .given .1)
 
 same-length-2 : tie.Need-same-length-2
 same-length-2 c = search needs
 
 returns-2 : tie.Need-returns-2
-returns-2 c = turned-down (c .before .before .before .before .before .before .before .args .memory .now) (c .before .before .before .before .before .before .before .args .waits .now) (c .before .before .before .before .before .before .before .args .start) (c .before .before .before .before .before .before .before .args .clocks) (c .before .before .before .gate-verdict .result) (c .before .before .before .gate-verdict .ensures) (c .before .verdict .given .0 .0) (c .before .verdict .given .1)
+returns-2 c = accepted (c .before .before .before .before .before .before .before .before .before .before .before .args .memory .now) (c .before .before .before .before .before .before .before .before .before .before .before .args .waits .now) (c .before .before .before .before .before .before .before .before .before .before .before .args .start) (c .before .before .before .before .before .before .before .before .before .before .before .args .clocks) (c .before .before .before .before .before .before .before .gate-verdict .result) (c .before .before .before .before .before .before .before .gate-verdict .ensures) (c .before .before .before .before .before .enum-told .given .1) (c .before .before .before .run-clocks .result .state) (c .before .before .before .run-clocks .last .0) (c .before .before .before .run-clocks .result .finished) (c .before .before .before .run-clocks .ensures)
 
 pub run-spec : {M : Type 1} → statement M
 run-spec =
     tie.close
     (tie.spec
     gate-verdict-requires
+    enum-known-verdict
     enum-told
     run-clocks-requires
-    enum-known-verdict
     same-length
     returns
     same-length-2

@@ -3,9 +3,9 @@ use mathlib.Core.Path.{_≡_, sym, _∙_}
 use native.Mathlib.Omega.{arith}
 use lib.ListN.{length}
 use borrow.Author.Needs.{needs}
+use Rattle.model.proofs.Verdicts.{memory-bounds}
 use Rattle.image.specs.Format.{spanOf, imageOf}
-use Rattle.image.proofs.Laws.{size}
-use Rattle.image.proofs.Outcomes.{memory-bounds}
+use Rattle.image.proofs.Inverse.{size}
 use Rattle.image_writer.proofs.Answers.{refused-memory, short-output, written}
 use Rattle.image_writer.proofs.write.Statement.{statement}
 use Rattle.image_writer.proofs.write.Tie as tie

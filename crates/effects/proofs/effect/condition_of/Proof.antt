@@ -53,7 +53,7 @@ returns-8 : tie.Need-returns-8
 returns-8 c = rw (c .before .match .keys8) (c .negative2 .ensures)
 
 returns-9 : tie.Need-returns-9
-returns-9 c = always (c .before .args .op) (flagsOf (c .before .args .flags)) (c .match .rest .0 .0 .0 .0 .0 .0 .0 .1) (c .match .rest .0 .0 .0 .0 .0 .0 .1) (c .match .rest .0 .0 .0 .0 .0 .1) (c .match .rest .0 .0 .0 .0 .1) (c .match .rest .0 .0 .0 .1) (c .match .rest .0 .0 .1) (c .match .rest .0 .1) (c .match .rest .1)
+returns-9 c = always (c .before .args .op) (flagsOf (c .before .args .flags)) (c .match .rest)
 
 pub condition-of-spec : {M : Type 1} → statement M
 condition-of-spec =

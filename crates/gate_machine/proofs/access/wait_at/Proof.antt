@@ -1,6 +1,6 @@
 use borrow.Author.Needs.{needs}
-use Rattle.operands.proofs.Operands.{absent}
 use Rattle.model.specs.Waits.{waitAt}
+use Rattle.operands.proofs.Operands.{absent}
 use Rattle.gate_machine.proofs.access.wait_at.Statement.{statement}
 use Rattle.gate_machine.proofs.access.wait_at.Tie as tie
 

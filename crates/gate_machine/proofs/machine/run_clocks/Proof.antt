@@ -4,14 +4,14 @@ use native.Mathlib.Omega.{arith}
 use lib.ListN.{length}
 use borrow.Author.Needs.{needs}
 use Rattle.arithmetic.proofs.Sums.{bit-le}
-use Rattle.step_table.proofs.TableLaws.{step-there}
-use Rattle.model.proofs.Valid.{short, row-there}
-use Rattle.gate_machine.proofs.Laws.{turn}
-use Rattle.gate_rows.specs.Work.{stateOf}
-use Rattle.model.proofs.Progress.{finished-slow}
+use Rattle.model.specs.declared.GateState.{GateState}
 use Rattle.model.specs.Agreement.{gateFrom}
 use Rattle.model.specs.Gates.{Gate, gate, gateRun}
-use Rattle.model.specs.declared.GateState.{GateState}
+use Rattle.model.proofs.Valid.{short, row-there}
+use Rattle.model.proofs.Progress.{finished-slow}
+use Rattle.step_table.proofs.TableLaws.{step-there}
+use Rattle.gate_rows.specs.Work.{stateOf}
+use Rattle.gate_machine.proofs.Laws.{turn}
 use Rattle.gate_machine.proofs.machine.run_clocks.Statement.{statement}
 use Rattle.gate_machine.proofs.machine.run_clocks.Tie as tie
 

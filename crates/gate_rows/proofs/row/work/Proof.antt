@@ -1,9 +1,9 @@
 use mathlib.Core.Path.{refl, _∙_}
 use borrow.Author.Needs.{needs}
-use Rattle.gate_rows.proofs.Laws.{by, past, prepares}
-use Rattle.gate_rows.specs.Work.{stateOf}
 use Rattle.model.specs.Gates.{withA, withB}
 use Rattle.model.specs.Operands.{operandA, operandB}
+use Rattle.gate_rows.specs.Work.{stateOf}
+use Rattle.gate_rows.proofs.Laws.{by, past, prepares}
 use Rattle.gate_rows.proofs.row.work.Statement.{statement}
 use Rattle.gate_rows.proofs.row.work.Tie as tie
 

@@ -4,8 +4,8 @@ use mathlib.Core.Path.{sym, _∙_}
 use native.Mathlib.Omega.{arith}
 use lib.ListN.{List·getD-eq-default}
 use borrow.Author.Needs.{needs}
-use Rattle.gates.proofs.Turns.{bit-at, length-bits}
 use Rattle.gates.specs.Gates.{bitsOf}
+use Rattle.gates.proofs.Turns.{bit-at, length-bits}
 use Rattle.gates.proofs.bits.above.Statement.{statement}
 use Rattle.gates.proofs.bits.above.Tie as tie
 

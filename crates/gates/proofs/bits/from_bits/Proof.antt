@@ -15,33 +15,33 @@ abbrev μ-loop : tie.MeasureT-loop
 μ-loop bits r₀ i₀ r i = i
 
 loop-holds : tie.Need-loop-holds Inv-loop μ-loop
-loop-holds c = (omega arith, sym (value-end (c .before .args .bits .now) _ refl))
+loop-holds c = (omega arith, sym (value-end (c .args .bits .now) _ refl))
 
 sub-i : tie.Need-sub-i Inv-loop μ-loop
 sub-i c = omega arith
 
 mul-r : tie.Need-mul-r Inv-loop μ-loop
-mul-r c = omega (arith, value-drop 32 (c .before .before .before .args .bits .now) (c .before .loop .i) (omega arith) (omega arith) (omega arith))
+mul-r c = omega (arith, value-drop 32 (c .before .before .args .bits .now) (c .before .loop .i) (omega arith) (omega arith) (omega arith))
 
-shared-slice-read-digit : tie.Need-shared-slice-read-digit Inv-loop μ-loop
-shared-slice-read-digit c = omega arith
+shared-slice-read-r : tie.Need-shared-slice-read-r Inv-loop μ-loop
+shared-slice-read-r c = omega arith
 
-digit-requires : tie.Need-digit-requires Inv-loop μ-loop
-digit-requires c κs = search needs
+cast-r : tie.Need-cast-r Inv-loop μ-loop
+cast-r c = search needs
 
 add-r : tie.Need-add-r Inv-loop μ-loop
-add-r c = omega (arith, value-drop 32 (c .before .before .before .before .before .args .bits .now) (c .before .before .before .loop .i) (omega arith) (omega arith) (omega arith))
+add-r c = omega (arith, value-drop 32 (c .before .before .before .args .bits .now) (c .before .before .loop .i) (omega arith) (omega arith) (omega arith))
 
 loop-less : tie.Need-loop-less Inv-loop μ-loop
 loop-less c = omega arith
 
 loop-again : tie.Need-loop-again Inv-loop μ-loop
-loop-again c = (omega arith, omega (arith, value-drop 32 (c .before .before .before .before .before .args .bits .now) (c .before .before .before .loop .i) (omega arith) (omega arith) (omega arith)))
+loop-again c = (omega arith, omega (arith, value-drop 32 (c .before .before .before .args .bits .now) (c .before .before .loop .i) (omega arith) (omega arith) (omega arith)))
 
 returns : tie.Need-returns Inv-loop μ-loop
 returns c =
     let e : c .before .loop .i ≡ 0 = omega arith in
-    c .before .loop .inv .1 ∙ ap (λ (n : ℕ). value (drop n (c .before .before .before .args .bits .now))) e
+    c .before .loop .inv .1 ∙ ap (λ (n : ℕ). value (drop n (c .before .before .args .bits .now))) e
 
 pub from-bits-spec : {M : Type 1} → statement M
 from-bits-spec =
@@ -52,8 +52,8 @@ from-bits-spec =
     loop-holds
     sub-i
     mul-r
-    shared-slice-read-digit
-    digit-requires
+    shared-slice-read-r
+    cast-r
     add-r
     loop-less
     loop-again

@@ -9,11 +9,11 @@ machine-in-requires c κs = search needs
 shared-slice-read-row-in : tie.Need-shared-slice-read-row-in
 shared-slice-read-row-in c = search needs
 
+shared-slice-read-row-in-2 : tie.Need-shared-slice-read-row-in-2
+shared-slice-read-row-in-2 c = search needs
+
 row-in-requires : tie.Need-row-in-requires
 row-in-requires c κs = search needs
-
-shared-slice-read-t9 : tie.Need-shared-slice-read-t9
-shared-slice-read-t9 c = search needs
 
 shared-slice-read-t11 : tie.Need-shared-slice-read-t11
 shared-slice-read-t11 c = search needs
@@ -33,14 +33,17 @@ shared-slice-read-t19 c = search needs
 shared-slice-read-t21 : tie.Need-shared-slice-read-t21
 shared-slice-read-t21 c = search needs
 
-shared-slice-read-t24 : tie.Need-shared-slice-read-t24
-shared-slice-read-t24 c = search needs
+shared-slice-read-t23 : tie.Need-shared-slice-read-t23
+shared-slice-read-t23 c = search needs
 
-cast-t25 : tie.Need-cast-t25
-cast-t25 c = search needs
+shared-slice-read-left-in : tie.Need-shared-slice-read-left-in
+shared-slice-read-left-in c = search needs
+
+left-in-requires : tie.Need-left-in-requires
+left-in-requires c κs = search needs
 
 returns : tie.Need-returns
-returns c = state-from _ _ (c .before .before .before .before .before .before .before .before .before .before .before .before .machine-in .ensures) _ (c .before .before .before .before .before .before .before .before .row-in .ensures)
+returns c = state-from _ _ (c .before .before .before .before .before .before .before .before .before .before .before .before .before .before .machine-in .ensures) _ (c .before .before .before .before .before .before .before .before .before .row-in .ensures) _ (c .left-in .ensures)
 
 pub state-in-spec : {M : Type 1} → statement M
 state-in-spec =
@@ -48,14 +51,15 @@ state-in-spec =
     (tie.spec
     machine-in-requires
     shared-slice-read-row-in
+    shared-slice-read-row-in-2
     row-in-requires
-    shared-slice-read-t9
     shared-slice-read-t11
     shared-slice-read-t13
     shared-slice-read-t15
     shared-slice-read-t17
     shared-slice-read-t19
     shared-slice-read-t21
-    shared-slice-read-t24
-    cast-t25
+    shared-slice-read-t23
+    shared-slice-read-left-in
+    left-in-requires
     returns)

@@ -5,8 +5,8 @@ use native.Mathlib.Omega.{arith}
 use native.Mathlib.Nat.{add-zero, sub-zero}
 use lib.ListN.{length, take, drop, length-set}
 use lib.Seq.{sets}
-use Rattle.image.specs.Bytes.{number, wordsIn}
 use Rattle.model.proofs.Stores.{store-step, store-end}
+use Rattle.image.specs.Bytes.{number, wordsIn}
 use Rattle.image_reader.proofs.Places.{next-word}
 use Rattle.image_reader.proofs.bytes.get_words.Statement.{statement}
 use Rattle.image_reader.proofs.bytes.get_words.Tie as tie

@@ -14,8 +14,8 @@ header-verdict-requires c κs = search needs
 word-count-requires : tie.Need-word-count-requires
 word-count-requires c κs = search needs
 
-cast-held : tie.Need-cast-held
-cast-held c = search needs
+cast-words : tie.Need-cast-words
+cast-words c = search needs
 
 demand-requires : tie.Need-demand-requires
 demand-requires c κs = search needs
@@ -43,7 +43,7 @@ count-verdict-spec =
     (tie.spec
     header-verdict-requires
     word-count-requires
-    cast-held
+    cast-words
     demand-requires
     demand-requires-2
     then-requires

@@ -5,13 +5,13 @@ use native.Mathlib.Omega.{arith}
 use native.Mathlib.Nat.{sub-zero}
 use lib.ListN.{length, drop}
 use lib.Seq.{sets}
-use Rattle.image.specs.Bytes.{wordsIn}
-use Rattle.image.proofs.BytesLaws.{length-words}
 use Rattle.model.proofs.Stores.{store-step, store-end}
-use Rattle.image_reader.proofs.Turns.{memory-step}
-use Rattle.image_reader.specs.Layout.{memoryIn}
+use Rattle.image.specs.Bytes.{wordsIn}
 use Rattle.image.specs.Format.{wordsPerField, fieldsFor, spanOf}
+use Rattle.image.proofs.BytesLaws.{length-words}
 use Rattle.image.proofs.MemoryLaws.{span-turn}
+use Rattle.image_reader.specs.Layout.{memoryIn}
+use Rattle.image_reader.proofs.Turns.{memory-step}
 use Rattle.image_reader.proofs.loads.load_memory.Statement.{statement}
 use Rattle.image_reader.proofs.loads.load_memory.Tie as tie
 

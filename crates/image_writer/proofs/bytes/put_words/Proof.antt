@@ -4,9 +4,9 @@ use native.Mathlib.Nat.{add-zero, sub-zero}
 use native.Mathlib.Omega.{arith}
 use lib.ListN.{length, take, drop, getD}
 use lib.Seq.{sets}
+use Rattle.model.proofs.Stores.{store-step, store-end}
 use Rattle.image.specs.Bytes.{bytesOf, wordBytes}
 use Rattle.image.proofs.BytesLaws.{length-bytes}
-use Rattle.model.proofs.Stores.{store-step, store-end}
 use Rattle.image_writer.proofs.Puts.{next-word}
 use Rattle.image_writer.proofs.bytes.put_words.Statement.{statement}
 use Rattle.image_writer.proofs.bytes.put_words.Tie as tie

@@ -5,10 +5,10 @@ use native.Mathlib.Nat.{sub-zero}
 use native.Mathlib.Omega.{arith}
 use lib.ListN.{length, take, drop}
 use lib.Seq.{sets}
+use Rattle.model.proofs.Stores.{store-step, store-end}
 use Rattle.image.specs.Bytes.{wordBytes}
 use Rattle.image.specs.Format.{fieldBytes, wordsField, wordsPerField, fieldsFor, spanOf, memoryFields}
 use Rattle.image.proofs.MemoryLaws.{span-turn}
-use Rattle.model.proofs.Stores.{store-step, store-end}
 use Rattle.image_writer.proofs.Puts.{next-field, length-word-field}
 use Rattle.image_writer.proofs.fields.put_memory.Statement.{statement}
 use Rattle.image_writer.proofs.fields.put_memory.Tie as tie

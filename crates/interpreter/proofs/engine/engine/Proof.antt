@@ -24,8 +24,8 @@ loop-holds c = begins (c .before .before .before .before .before .before .args .
 step-requires : tie.Need-step-requires Inv-loop μ-loop
 step-requires c κs = tt
 
-unpacked-requires : tie.Need-unpacked-requires Inv-loop μ-loop
-unpacked-requires c κs = search needs
+run-end-requires : tie.Need-run-end-requires Inv-loop μ-loop
+run-end-requires c κs = search needs
 
 same-length : tie.Need-same-length Inv-loop μ-loop
 same-length c = omega (arith, c .before .before .before .before .before .before .before .step .kept .1 .0, c .before .before .before .before .before .before .before .before .before .before .before .before .loop .inv .words)
@@ -34,7 +34,7 @@ same-length-2 : tie.Need-same-length-2 Inv-loop μ-loop
 same-length-2 c = omega (arith, c .before .before .before .before .before .before .before .step .kept .1 .1 .0, c .before .before .before .before .before .before .before .before .before .before .before .before .loop .inv .places)
 
 returns : tie.Need-returns Inv-loop μ-loop
-returns c = ends-outside (c .before .before .before .before .before .before .before .before .before .before .before .before .before .before .before .before .before .before .before .args .memory .now) (c .before .before .before .before .before .before .before .before .before .before .before .before .before .before .before .before .before .before .before .args .waits .now) (c .before .before .before .before .before .before .before .before .before .before .before .before .before .before .before .before .before .before .before .args .journal .now) (c .before .before .before .before .before .before .before .before .before .before .before .before .before .before .before .before .before .before .before .args .start) (c .before .before .before .before .before .before .before .before .before .before .before .before .before .before .before .before .before .before .before .args .count) (c .before .before .before .before .before .before .before .before .before .before .before .before .before .packed .ensures) (c .before .before .before .before .before .before .before .before .before .before .before .before .loop .inv) (c .before .before .before .before .before .before .before .before .before .before .before .loop-test .taken) (c .before .before .before .before .before .before .before .step .ensures) (not-true _ (c .before .if1 .taken)) (c .unpacked .ensures)
+returns c = ends-outside (c .before .before .before .before .before .before .before .before .before .before .before .before .before .before .before .before .before .before .before .args .memory .now) (c .before .before .before .before .before .before .before .before .before .before .before .before .before .before .before .before .before .before .before .args .waits .now) (c .before .before .before .before .before .before .before .before .before .before .before .before .before .before .before .before .before .before .before .args .journal .now) (c .before .before .before .before .before .before .before .before .before .before .before .before .before .before .before .before .before .before .before .args .start) (c .before .before .before .before .before .before .before .before .before .before .before .before .before .before .before .before .before .before .before .args .count) (c .before .before .before .before .before .before .before .before .before .before .before .before .before .packed .ensures) (c .before .before .before .before .before .before .before .before .before .before .before .before .loop .inv) (c .before .before .before .before .before .before .before .before .before .before .before .loop-test .taken) (c .before .before .before .before .before .before .before .step .ensures) (not-true _ (c .before .if1 .taken)) (c .run-end .ensures)
 
 clocked-requires : tie.Need-clocked-requires Inv-loop μ-loop
 unfolding waitAt
@@ -49,8 +49,8 @@ loop-less c = omega (arith, c .before .before .before .before .before .before .b
 loop-again : tie.Need-loop-again Inv-loop μ-loop
 loop-again c = turn (c .before .before .before .before .before .before .before .before .before .before .before .before .before .before .before .before .before .before .before .args .memory .now) (c .before .before .before .before .before .before .before .before .before .before .before .before .before .before .before .before .before .before .before .args .waits .now) (c .before .before .before .before .before .before .before .before .before .before .before .before .before .before .before .before .before .before .before .args .journal .now) (unpackedStart (c .before .before .before .before .before .before .before .before .before .before .before .before .before .before .before .before .before .before .before .args .start) (c .before .before .before .before .before .before .before .before .before .before .before .before .before .packed .result)) (c .before .before .before .before .before .before .before .before .before .before .before .before .before .before .before .before .before .before .before .args .count) (c .before .before .before .before .before .before .before .before .before .before .before .before .loop .inv) (c .before .before .before .before .before .before .before .before .before .before .before .loop-test .taken) (c .before .before .before .before .before .before .before .step .ensures) (not-false _ (c .before .if1 .left)) (c .clocked .ensures) (omega (arith, c .before .before .before .before .before .before .before .before .before .before .before .before .before .before .before .before .before .before .before .fits .count)) (c .before .before .before .before .before .before .before .step .kept .1 .0) (c .before .before .before .before .before .before .before .step .kept .1 .1 .0)
 
-unpacked-requires-2 : tie.Need-unpacked-requires-2 Inv-loop μ-loop
-unpacked-requires-2 c κs = search needs
+run-end-requires-2 : tie.Need-run-end-requires-2 Inv-loop μ-loop
+run-end-requires-2 c κs = search needs
 
 same-length-3 : tie.Need-same-length-3 Inv-loop μ-loop
 same-length-3 c = omega (arith, c .before .before .loop .inv .words)
@@ -59,7 +59,7 @@ same-length-4 : tie.Need-same-length-4 Inv-loop μ-loop
 same-length-4 c = omega (arith, c .before .before .loop .inv .places)
 
 returns-2 : tie.Need-returns-2 Inv-loop μ-loop
-returns-2 c = ends-finished (c .before .before .before .before .before .before .before .before .before .args .memory .now) (c .before .before .before .before .before .before .before .before .before .args .waits .now) (c .before .before .before .before .before .before .before .before .before .args .journal .now) (c .before .before .before .before .before .before .before .before .before .args .start) (c .before .before .before .before .before .before .before .before .before .args .count) (c .before .before .before .packed .ensures) (c .before .before .loop .inv) (c .before .loop-test .left) (c .unpacked2 .ensures)
+returns-2 c = ends-finished (c .before .before .before .before .before .before .before .before .before .args .memory .now) (c .before .before .before .before .before .before .before .before .before .args .waits .now) (c .before .before .before .before .before .before .before .before .before .args .journal .now) (c .before .before .before .before .before .before .before .before .before .args .start) (c .before .before .before .before .before .before .before .before .before .args .count) (c .before .before .before .packed .ensures) (c .before .before .loop .inv) (c .before .loop-test .left) (c .run-end2 .ensures)
 
 pub engine-spec : {M : Type 1} → statement M
 engine-spec =
@@ -70,7 +70,7 @@ engine-spec =
     packed-requires
     loop-holds
     step-requires
-    unpacked-requires
+    run-end-requires
     same-length
     same-length-2
     returns
@@ -78,7 +78,7 @@ engine-spec =
     add-i
     loop-less
     loop-again
-    unpacked-requires-2
+    run-end-requires-2
     same-length-3
     same-length-4
     returns-2)

@@ -1,7 +1,7 @@
 -- Its parts follow each other.
 use borrow.Author.Needs.{needs}
-use Rattle.ledger_text.proofs.PartLaws.{_▸_}
 use Rattle.ledger_lines.specs.Lines.{line}
+use Rattle.ledger_text.proofs.PartLaws.{_▸_}
 use Rattle.ledger_text.proofs.lines.put_line.Statement.{statement}
 use Rattle.ledger_text.proofs.lines.put_line.Tie as tie
 

@@ -1,7 +1,7 @@
 use native.Mathlib.Omega.{arith}
 use borrow.Author.Needs.{needs}
-use Rattle.ledger_text.proofs.PartLaws.{ended}
 use Rattle.text.proofs.Figures.{length-digits}
+use Rattle.ledger_text.proofs.PartLaws.{ended}
 use Rattle.ledger_text.proofs.lines.put_word.Statement.{statement}
 use Rattle.ledger_text.proofs.lines.put_word.Tie as tie
 

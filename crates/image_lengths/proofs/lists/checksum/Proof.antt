@@ -1,8 +1,8 @@
 use Prim.Native.Nat.{_-_, _<_}
 use native.Mathlib.Omega.{arith}
 use lib.ListN.{length}
-use Rattle.image_lengths.proofs.checksum.Statement.{statement}
-use Rattle.image_lengths.proofs.checksum.Tie as tie
+use Rattle.image_lengths.proofs.lists.checksum.Statement.{statement}
+use Rattle.image_lengths.proofs.lists.checksum.Tie as tie
 
 abbrev Inv-loop : tie.InvT-loop
 Inv-loop bytes sum₀ i₀ sum i = sum < 65_521

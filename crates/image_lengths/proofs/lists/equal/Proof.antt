@@ -1,8 +1,8 @@
 use Prim.Native.Nat.{_-_}
 use native.Mathlib.Omega.{arith}
 use lib.ListN.{length}
-use Rattle.image_lengths.proofs.equal.Statement.{statement}
-use Rattle.image_lengths.proofs.equal.Tie as tie
+use Rattle.image_lengths.proofs.lists.equal.Statement.{statement}
+use Rattle.image_lengths.proofs.lists.equal.Tie as tie
 
 abbrev Inv-loop : tie.InvT-loop
 Inv-loop a b i₀ i = Unit {0}

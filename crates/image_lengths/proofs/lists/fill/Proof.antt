@@ -2,8 +2,8 @@ use Prim.Native.Nat.{_-_}
 use mathlib.Core.Path.{_≡_, refl}
 use native.Mathlib.Omega.{arith}
 use lib.ListN.{length, length-set}
-use Rattle.image_lengths.proofs.fill.Statement.{statement}
-use Rattle.image_lengths.proofs.fill.Tie as tie
+use Rattle.image_lengths.proofs.lists.fill.Statement.{statement}
+use Rattle.image_lengths.proofs.lists.fill.Tie as tie
 
 abbrev Inv-loop : tie.InvT-loop
 Inv-loop memory₀ words i₀ memory i = length memory ≡ length memory₀
