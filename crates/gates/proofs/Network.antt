@@ -11,12 +11,13 @@ use Rattle.arithmetic.specs.declared.AluOut.{AluOut}
 use Rattle.arithmetic.specs.Words.{asNumber, overflowOf}
 use Rattle.arithmetic.specs.Alu.{plainOf, sumOf, differenceOf, halvedOf, answers, aluAt, aluOf}
 use Rattle.arithmetic.proofs.Sums.{out-eq, bit-le, bit-digit}
+use Rattle.arithmetic.proofs.Integers.{weight}
 use Rattle.gates.specs.declared.control.Lines.{Lines}
 use Rattle.gates.specs.Gates.{value, bitsOf, rippleSum, rippleCarry, codeOf, linesOf, firstRow, secondRow, carryOut}
 use Rattle.gates.specs.Theorems.{Adds, outOf, UnitAtEveryWidth, RippleUnit}
 use Rattle.gates.proofs.Turns.{length-bits}
 use Rattle.gates.proofs.Worth.{one, xor-false, xor-true, ripple-adds, value-bits, value-below, value-top, value-low}
-use Rattle.gates.proofs.RowWorth.{pick-first, pick-second, first-length, table-value, none-digits, a-digits, b-digits, and-digits, or-digits, xor-digits, not-value, shift-value, second-length, taken, second-value, second-turned}
+use Rattle.gates.proofs.RowWorth.{pick-first, pick-second, first-length, table-value, none-digits, a-digits, b-digits, and-digits, or-digits, xor-digits, not-value, shift-value, second-length, second-value, second-turned}
 use Rattle.gates.proofs.Adders.{flagged, adder-sum, adder-difference, none-and, and-none}
 
 -- a shift puts the bit that it drops into the carry
@@ -34,27 +35,27 @@ module _ (k : ℕ) (l : Lines) (a b s : List Bool) (d : Bool) (la : length a ≡
   lq : length (secondRow l a) ≡ suc k
   lq = second-length l a ∙ la
 
-  sum-of : l .turn ≡ false → flagged k (firstRow l a b) (secondRow l a) s d (l .turn) ≡ sumOf k (value (firstRow l a b)) (taken (l .second) (value a)) (l .carry)
+  sum-of : l .turn ≡ false → flagged k (firstRow l a b) (secondRow l a) s d (l .turn) ≡ sumOf k (value (firstRow l a b)) (weight (l .second) (value a)) (l .carry)
   sum-of t =
       ap (λ (u : Bool). flagged k (firstRow l a b) (secondRow l a) s d u) t ∙ adder-sum k (firstRow l a b) (secondRow l a) s (l .carry) d lp lq h
       ∙ ap (λ (y : ℕ). sumOf k (value (firstRow l a b)) y (l .carry)) (second-value l t a)
 
   -- a sum, a difference, or nothing added to the first row, by what that is worth
-  sums : {x : ℕ} {f : Bool} → l .shift ≡ false → l .turn ≡ false → l .carry ≡ f → value (firstRow l a b) ≡ x → outOf k l a b s d ≡ sumOf k x (taken (l .second) (value a)) f
-  sums e t g v = (λ i. dropped (e i) (getD a 0 false) (sum-of t i)) ∙ (λ i. sumOf k (v i) (taken (l .second) (value a)) (g i))
+  sums : {x : ℕ} {f : Bool} → l .shift ≡ false → l .turn ≡ false → l .carry ≡ f → value (firstRow l a b) ≡ x → outOf k l a b s d ≡ sumOf k x (weight (l .second) (value a)) f
+  sums e t g v = (λ i. dropped (e i) (getD a 0 false) (sum-of t i)) ∙ (λ i. sumOf k (v i) (weight (l .second) (value a)) (g i))
 
   differences : {x : ℕ} (c : Bool) → l .shift ≡ false → l .turn ≡ true → l .carry ≡ not c → value (firstRow l a b) ≡ x
-      → outOf k l a b s d ≡ differenceOf k x (taken (l .second) (value a)) c
+      → outOf k l a b s d ≡ differenceOf k x (weight (l .second) (value a)) c
   differences c e t g v =
       (λ i. dropped (e i) (getD a 0 false) (flagged k (firstRow l a b) (secondRow l a) s d (t i)))
-      ∙ adder-difference k (firstRow l a b) (secondRow l a) s (l .carry) d lp lq h (taken (l .second) (value a)) c g (second-turned l t a ∙ ap (λ (n : ℕ). 2 ^ n) la)
-      ∙ ap (λ (x : ℕ). differenceOf k x (taken (l .second) (value a)) c) v
+      ∙ adder-difference k (firstRow l a b) (secondRow l a) s (l .carry) d lp lq h (weight (l .second) (value a)) c g (second-turned l t a ∙ ap (λ (n : ℕ). 2 ^ n) la)
+      ∙ ap (λ (x : ℕ). differenceOf k x (weight (l .second) (value a)) c) v
 
   plain : {x : ℕ} → l .turn ≡ false → l .second ≡ false → l .carry ≡ false → value (firstRow l a b) ≡ x
       → outOf k l a b s d ≡ dropped (l .shift) (getD a 0 false) (plainOf x)
   plain t e g v =
       ap (dropped (l .shift) (getD a 0 false))
-      (sum-of t ∙ (λ i. sumOf k (value (firstRow l a b)) (taken (e i) (value a)) (g i)) ∙ and-none k (value (firstRow l a b)) (value-below (firstRow l a b) (suc k) lp) ∙ ap plainOf v)
+      (sum-of t ∙ (λ i. sumOf k (value (firstRow l a b)) (weight (e i) (value a)) (g i)) ∙ and-none k (value (firstRow l a b)) (value-below (firstRow l a b) (suc k) lp) ∙ ap plainOf v)
 
   complemented : l .shift ≡ false → l .t00 ≡ true → l .t01 ≡ true → l .t10 ≡ false → l .t11 ≡ false → value (firstRow l a b) ≡ 2 ^ suc k - 1 - value a
   complemented e p q r u = omega (arith, not-value l e p q r u a b same ∙ ap (λ (n : ℕ). 2 ^ n) la)

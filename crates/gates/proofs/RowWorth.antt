@@ -9,6 +9,7 @@ use lib.ListN.{length, getD}
 use lib.Bits.{bitAnd, bitOr, bitXor, differ, and-step, or-step, xor-step}
 use Rattle.arithmetic.specs.Words.{asNumber, _⊕_}
 use Rattle.arithmetic.proofs.Sums.{bit-le}
+use Rattle.arithmetic.proofs.Integers.{weight}
 use Rattle.gates.specs.declared.control.Lines.{Lines}
 use Rattle.gates.specs.Gates.{value, pick, entry, firstRow, secondRow}
 use Rattle.gates.proofs.Worth.{one, two, value-snoc}
@@ -112,35 +113,32 @@ unfolding secondRow
 second-length l [] = refl
 second-length l (x ∷ a) = ap suc (second-length l a)
 
--- what the second row adds or takes away: a or nothing
-abbrev pub taken : Bool → ℕ → ℕ
-taken true x = x
-taken false x = 0
+-- what the second row adds or takes away is a's weight: a or nothing
 
-bit-taken : (s x : Bool) → asNumber ((x && s) ⊕ false) ≡ taken s (asNumber x)
+bit-taken : (s x : Bool) → asNumber ((x && s) ⊕ false) ≡ weight s (asNumber x)
 bit-taken = two _ refl refl refl refl
 
-bit-turned : (s x : Bool) → asNumber ((x && s) ⊕ true) + taken s (asNumber x) ≡ 1
+bit-turned : (s x : Bool) → asNumber ((x && s) ⊕ true) + weight s (asNumber x) ≡ 1
 bit-turned = two _ refl refl refl refl
 
-taken-more : (s : Bool) (x a : ℕ) → taken s (x + 2 * a) ≡ taken s x + 2 * taken s a
+taken-more : (s : Bool) (x a : ℕ) → weight s (x + 2 * a) ≡ weight s x + 2 * weight s a
 taken-more true x a = refl
 taken-more false x a = refl
 
-pub second-value : (l : Lines) → l .turn ≡ false → (a : List Bool) → value (secondRow l a) ≡ taken (l .second) (value a)
+pub second-value : (l : Lines) → l .turn ≡ false → (a : List Bool) → value (secondRow l a) ≡ weight (l .second) (value a)
 unfolding value secondRow
-second-value l t [] = one (λ s. 0 ≡ taken s 0) refl refl (l .second)
+second-value l t [] = one (λ s. 0 ≡ weight s 0) refl refl (l .second)
 second-value l t (x ∷ a) =
     ap (λ (u : Bool). asNumber ((x && l .second) ⊕ u) + 2 * value (secondRow l a)) t
     ∙ ap₂ (λ (m n : ℕ). m + 2 * n) (bit-taken (l .second) x) (second-value l t a)
     ∙ sym (taken-more (l .second) (asNumber x) (value a))
 
--- the complement: together with what is taken away it is worth all ones
-pub second-turned : (l : Lines) → l .turn ≡ true → (a : List Bool) → value (secondRow l a) + taken (l .second) (value a) + 1 ≡ 2 ^ length a
+-- the complement: together with what is weight away it is worth all ones
+pub second-turned : (l : Lines) → l .turn ≡ true → (a : List Bool) → value (secondRow l a) + weight (l .second) (value a) + 1 ≡ 2 ^ length a
 unfolding value secondRow
-second-turned l t [] = one (λ s. 0 + taken s 0 + 1 ≡ 1) refl refl (l .second)
+second-turned l t [] = one (λ s. 0 + weight s 0 + 1 ≡ 1) refl refl (l .second)
 second-turned l t (x ∷ a) =
-    ap (λ (u : Bool). asNumber ((x && l .second) ⊕ u) + 2 * value (secondRow l a) + taken (l .second) (asNumber x + 2 * value a) + 1) t
+    ap (λ (u : Bool). asNumber ((x && l .second) ⊕ u) + 2 * value (secondRow l a) + weight (l .second) (asNumber x + 2 * value a) + 1) t
     ∙ omega (arith, bit-turned (l .second) x, second-turned l t a, taken-more (l .second) (asNumber x) (value a), pow-suc 2 (length a))
 
 -- ---- the complement of a in the first row
