@@ -31,11 +31,11 @@ extern "C" {
 /* ---- Limits and sizes */
 
 enum {
-    FM8502_MEMORY_WORDS = 16777216,   /* the longest memory */
-    FM8502_WAIT_ENTRIES = 65536,      /* the longest wait list, and the highest position */
-    FM8502_FILE_INSTRUCTIONS = 65536, /* the longest file run */
-    FM8502_MACHINE_WORDS = 12,
-    FM8502_STATE_WORDS = 21
+    FM8502_MOST_WORDS = 16777216,     /* the longest memory */
+    FM8502_MOST_WAITS = 65536,        /* the longest wait list, and the highest position */
+    FM8502_MOST_INSTRUCTIONS = 65536, /* the longest file run */
+    FM8502_MACHINE_SIZE = 12,         /* the words of a machine */
+    FM8502_STATE_SIZE = 21            /* the words of a gate state */
 };
 
 /* Bytes of the image of a memory of so many words. */
@@ -88,8 +88,8 @@ enum {
 
 /* ---- Calls
  *
- * memory: 1 to FM8502_MEMORY_WORDS words (fm8502_image_read: any number).
- * waits: at most FM8502_WAIT_ENTRIES entries.
+ * memory: 1 to FM8502_MOST_WORDS words (fm8502_image_read: any number).
+ * waits: at most FM8502_MOST_WAITS entries.
  * machine_words is 12, state_words 21; result_places is named at each call.
  */
 
@@ -105,7 +105,7 @@ uint32_t fm8502_run(uint32_t *memory, size_t memory_words, const uint16_t *waits
                     uint64_t *result, size_t result_places);
 
 /*
- * Runs up to count instructions, at most FM8502_FILE_INSTRUCTIONS, without waits.
+ * Runs up to count instructions, at most FM8502_MOST_INSTRUCTIONS, without waits.
  * Store number i to memory puts address and former word at journal[2 * i] and
  * journal[2 * i + 1]; other places do not change. Where fm8502_run would be
  * stopped, memory and machine go back to the start and the journal keeps its

@@ -1,5 +1,6 @@
 #!/usr/bin/env bash
-# The folder layers/, which shows the reading order, has each crate of crates.txt once, after the crates that it rests on.
+# The folder layers/, which shows the reading order, has each crate of crates.txt once, in the same order, after the crates that it
+# rests on.
 set -euo pipefail
 cd "$(dirname "$0")/.."
 
@@ -9,10 +10,13 @@ fail() {
 }
 
 declare -A needs=() listed=()
+order=
 while IFS=: read -r name list; do
     needs[$name]=$list
+    order+="$name "
 done < <(grep -v -e '^#' -e '^$' crates.txt)
 
+seen=
 while read -r link; do
     name=${link##*/[0-9]-}
     [ -v "needs[$name]" ] || fail "$link: crates.txt has no crate of this name"
@@ -23,8 +27,10 @@ while read -r link; do
         [ ! -v "needs[$need]" ] || [ -v "listed[$need]" ] || fail "$name stands before $need, which it rests on"
     done
     listed[$name]=1
+    seen+="$name "
 done < <(find layers -type l | LC_ALL=C sort)
 
 for name in "${!needs[@]}"; do
     [ -v "listed[$name]" ] || fail "$name is missing"
 done
+[ "$seen" = "$order" ] || fail "another order than that of crates.txt: $seen"

@@ -1,6 +1,7 @@
 #!/usr/bin/env bash
-# The tests outside Rattle: the folder that shows the reading order; the reference emulator's own; whether the generated files are those of their seeds and sources;
-# the ledger program and the proved calls against the reference emulator on generated cases; the C, Rust and Python bindings.
+# The tests outside Rattle: the folder that shows the reading order; the reference emulator's own; whether the generated files are those of
+# their seeds and sources; the ledger program and the proved calls against the reference emulator on generated cases; the C, Rust and
+# Python bindings.
 set -euo pipefail
 cd "$(dirname "$0")/.."
 . tests/tools.sh

@@ -19,7 +19,7 @@ enum {
 
 /* A machine with its memory. */
 typedef struct {
-    uint32_t machine[FM8502_MACHINE_WORDS];
+    uint32_t machine[FM8502_MACHINE_SIZE];
     uint32_t memory[MEMORY_WORDS];
     size_t words;
 } Card;
@@ -52,7 +52,7 @@ static Card load(const char *folder, const char *name) {
     uint64_t words;
     expect("image read",
            fm8502_image_read(bytes, length, card.memory, MEMORY_WORDS, card.machine,
-                             FM8502_MACHINE_WORDS, &words, 1),
+                             FM8502_MACHINE_SIZE, &words, 1),
            FM8502_DONE);
     card.words = (size_t)words;
     printf("%s: %zu words\n", name, card.words);
@@ -74,14 +74,14 @@ static void print_words(const char *name, const uint32_t *words, size_t count) {
 }
 
 static void stack(Card *card, const uint16_t *waits, size_t entries) {
-    uint32_t state[FM8502_STATE_WORDS] = {0};
+    uint32_t state[FM8502_STATE_SIZE] = {0};
     memcpy(state, card->machine, sizeof card->machine);
     Card copy = *card;
     uint64_t result[2], finished;
 
     expect("run",
            fm8502_run(card->memory, card->words, waits, entries, card->machine,
-                      FM8502_MACHINE_WORDS, INSTRUCTIONS, result, 2),
+                      FM8502_MACHINE_SIZE, INSTRUCTIONS, result, 2),
            FM8502_DONE);
     printf("run: finished, %llu instructions, %llu clocks\n", (unsigned long long)result[0],
            (unsigned long long)result[1]);
@@ -93,7 +93,7 @@ static void stack(Card *card, const uint16_t *waits, size_t entries) {
     print_words("accumulators", card->memory + ACCUMULATORS, SAMPLES);
 
     expect("gate run",
-           fm8502_gate_run(copy.memory, copy.words, waits, entries, state, FM8502_STATE_WORDS,
+           fm8502_gate_run(copy.memory, copy.words, waits, entries, state, FM8502_STATE_SIZE,
                            result[1], &finished, 1),
            FM8502_DONE);
     printf("gate machine: %llu instructions, row %u\n", (unsigned long long)finished,
@@ -107,7 +107,7 @@ static void roll_back(Card *card) {
 
     expect("file run",
            fm8502_file_run(card->memory, card->words, journal, 2 * INSTRUCTIONS, card->machine,
-                           FM8502_MACHINE_WORDS, INSTRUCTIONS, result, 2),
+                           FM8502_MACHINE_SIZE, INSTRUCTIONS, result, 2),
            FM8502_STOPPED);
     printf("file run: undone, %llu instructions, %llu pairs\n", (unsigned long long)result[0],
            (unsigned long long)result[1]);
@@ -117,7 +117,7 @@ static void roll_back(Card *card) {
     printf("memory and machine as before: %s\n", same ? "yes" : "no");
 
     uint32_t code = fm8502_file_run(card->memory, card->words, journal, 9, card->machine,
-                                    FM8502_MACHINE_WORDS, INSTRUCTIONS, result, 2);
+                                    FM8502_MACHINE_SIZE, INSTRUCTIONS, result, 2);
     expect("file run", code, FM8502_SHORT_JOURNAL);
     printf("short journal: refused %u\n", (unsigned)code);
 }

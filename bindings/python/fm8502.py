@@ -128,6 +128,12 @@ def _words(values):
     return (c_uint32 * len(values))(*values)
 
 
+def _count(number, bits):
+    if not 0 <= number < 1 << bits:
+        raise ValueError(f"{number} is not a count of {bits} bits")
+    return c_uint32(number) if bits == 32 else c_uint64(number)
+
+
 def _changing(name, lent, state, middle, places):
     """A call that changes a machine or state in place; its code and result."""
     words = _words(state._words())
@@ -158,15 +164,9 @@ def gate_run(memory, waits, state, clocks):
 
 
 def clock(memory, waits, state):
-    """Does one clock; returns the instructions finished, 0 or 1."""
+    """Does one clock; returns whether an instruction finished."""
     lent = (*_lent(c_uint32, memory), *_shown(c_uint16, waits))
-    return _changing("clock", lent, state, [], 1)[1][0]
-
-
-def _count(number, bits):
-    if not 0 <= number < 1 << bits:
-        raise ValueError(f"{number} is not a count of {bits} bits")
-    return c_uint32(number) if bits == 32 else c_uint64(number)
+    return bool(_changing("clock", lent, state, [], 1)[1][0])
 
 
 def image_size(words):

@@ -5,7 +5,7 @@ use crate::machine::Machine;
 use crate::refusal::{check_memory, Refusal};
 
 /// The most instructions of one file.
-pub const FILE_LIMIT: u32 = 65_536;
+pub const MOST_INSTRUCTIONS: u32 = 65_536;
 
 /// How a file run ended.
 #[derive(Clone, Copy, Debug, PartialEq, Eq)]
@@ -58,11 +58,11 @@ pub fn file_run(memory: &mut [u32], journal: &mut [u32], start: Machine, count: 
 
 fn check(words: usize, places: usize, count: u32) -> Result<(), Refusal> {
     check_memory(words)?;
-    if count > FILE_LIMIT {
-        return Err(Refusal::FileTooLong);
+    if count > MOST_INSTRUCTIONS {
+        return Err(Refusal::TooManyInstructions);
     }
     if places < 2 * count as usize {
-        return Err(Refusal::JournalTooShort);
+        return Err(Refusal::ShortJournal);
     }
     Ok(())
 }

@@ -3,7 +3,7 @@
 use crate::gate_alu::gate_alu;
 use crate::instruction::{Instruction, Operand};
 use crate::machine::{Flags, Machine};
-use crate::refusal::{check_memory, check_waits, Refusal, WAIT_LIMIT};
+use crate::refusal::{check_memory, check_waits, Refusal, MOST_WAITS};
 
 /// The state between two clocks.
 #[derive(Clone, Copy, Debug, Default, PartialEq, Eq)]
@@ -101,11 +101,11 @@ fn check(memory: &[u32], waits: &[u16], state: &GateState) -> Result<(), Refusal
     check_waits(waits.len())?;
     let is_access = matches!(state.row, 1 | 4 | 6 | 9);
     if state.row > 11
-        || state.position as usize > WAIT_LIMIT
+        || state.position as usize > MOST_WAITS
         || state.begun && !is_access
         || state.begun != (state.left > 0)
     {
-        return Err(Refusal::GateState);
+        return Err(Refusal::BadGateState);
     }
     Ok(())
 }

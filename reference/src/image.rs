@@ -1,7 +1,7 @@
 //! Writing and reading images.
 
 use crate::machine::{Flags, Machine};
-use crate::refusal::{check_memory, Refusal, MEMORY_LIMIT};
+use crate::refusal::{check_memory, Refusal, MOST_WORDS};
 
 /// Words in a full tag-05 field.
 const FIELD_WORDS: usize = 1_024;
@@ -24,7 +24,7 @@ pub fn write(machine: &Machine, memory: &[u32], output: &mut [u8]) -> Result<usi
     check_memory(memory.len())?;
     let size = image_size(memory.len());
     if output.len() < size {
-        return Err(Refusal::OutputTooShort);
+        return Err(Refusal::ShortOutput);
     }
     let mut writer = Writer { output, at: 0 };
     writer.field(TAG_VERSION, 1, [VERSION]);
@@ -117,7 +117,7 @@ impl Contents<'_> {
 fn parse(image: &[u8], lent: usize) -> Result<Contents<'_>, Refusal> {
     let mut reader = Reader { rest: image };
     if reader.field(TAG_VERSION, 1)? != [VERSION] {
-        return Err(Refusal::Version);
+        return Err(Refusal::WrongVersion);
     }
     let mut machine = Machine::default();
     let registers = reader.field(TAG_REGISTERS, 32)?;
@@ -152,16 +152,16 @@ impl<'a> Reader<'a> {
     /// The value of the field that is due, checked up to its own content.
     fn field(&mut self, tag: u8, length: usize) -> Result<&'a [u8], Refusal> {
         let Some((header, rest)) = self.rest.split_at_checked(3) else {
-            return Err(Refusal::ImageCut);
+            return Err(Refusal::CutImage);
         };
         if header[0] != tag {
-            return Err(Refusal::Tag);
+            return Err(Refusal::WrongTag);
         }
         if usize::from(u16::from_le_bytes([header[1], header[2]])) != length {
-            return Err(Refusal::Length);
+            return Err(Refusal::WrongLength);
         }
         let Some((value, rest)) = rest.split_at_checked(length) else {
-            return Err(Refusal::ImageCut);
+            return Err(Refusal::CutImage);
         };
         self.rest = rest;
         Ok(value)
@@ -170,7 +170,7 @@ impl<'a> Reader<'a> {
 
 fn flags(value: &[u8]) -> Result<Flags, Refusal> {
     if value.iter().any(|&byte| byte > 1) {
-        return Err(Refusal::FlagByte);
+        return Err(Refusal::BadFlag);
     }
     let flag = |i: usize| value[i] == 1;
     Ok(Flags::from_array([flag(0), flag(1), flag(2), flag(3)]))
@@ -178,11 +178,11 @@ fn flags(value: &[u8]) -> Result<Flags, Refusal> {
 
 fn word_count(value: &[u8], lent: usize) -> Result<usize, Refusal> {
     let words = word(value) as usize;
-    if words == 0 || words > MEMORY_LIMIT {
-        return Err(Refusal::WordCount);
+    if words == 0 || words > MOST_WORDS {
+        return Err(Refusal::BadWordCount);
     }
     if words > lent {
-        return Err(Refusal::LentMemoryTooShort);
+        return Err(Refusal::ShortMemory);
     }
     Ok(words)
 }

@@ -5,11 +5,11 @@ use crate::interpreter::step;
 use crate::machine::{Flags, Machine};
 
 /// The most bytes the program reads: one more than the largest image needs.
-pub const INPUT_LIMIT: usize = 16_453;
+pub const MOST_INPUT: usize = 16_453;
 /// Words of memory lent to the image reader.
 pub const MEMORY_WORDS: usize = 4_096;
 /// The most instructions listed.
-pub const STEP_LIMIT: u32 = 16;
+pub const MOST_LINES: u32 = 16;
 
 /// The ledger of an image.
 pub fn ledger(image: &[u8]) -> String {
@@ -24,7 +24,7 @@ pub fn ledger(image: &[u8]) -> String {
 fn list(memory: &mut [u32], mut machine: Machine) -> String {
     let mut text = String::from("step pc word clocks cvnz\n");
     let mut total = 0;
-    for number in 1..=STEP_LIMIT {
+    for number in 1..=MOST_LINES {
         let pc = machine.registers[0];
         // Before the step, as the instruction may overwrite itself.
         let word = memory.get(pc as usize).copied().unwrap_or_default();
@@ -35,7 +35,7 @@ fn list(memory: &mut [u32], mut machine: Machine) -> String {
         let flags = flag_digits(machine.flags);
         text += &format!("{number} {pc:08X} {word:08X} {} {flags}\n", step.clocks);
     }
-    text + &format!("finished {STEP_LIMIT} {total}\n")
+    text + &format!("finished {MOST_LINES} {total}\n")
 }
 
 fn flag_digits(flags: Flags) -> String {

@@ -3,28 +3,28 @@
 use std::fmt;
 
 /// The most words of memory that may be lent.
-pub const MEMORY_LIMIT: usize = 16_777_216;
+pub const MOST_WORDS: usize = 16_777_216;
 /// The most entries of a wait list, and the highest list position.
-pub const WAIT_LIMIT: usize = 65_536;
+pub const MOST_WAITS: usize = 65_536;
 
 /// The reasons of document 01; each has its number there as its discriminant.
 #[derive(Clone, Copy, Debug, PartialEq, Eq, PartialOrd, Ord, Hash)]
 #[repr(u8)]
 pub enum Refusal {
-    NoMemory = 1,
-    MemoryTooLong = 2,
-    WaitListTooLong = 3,
-    GateState = 4,
-    FileTooLong = 5,
-    JournalTooShort = 6,
-    OutputTooShort = 7,
-    ImageCut = 8,
-    Tag = 9,
-    Length = 10,
-    Version = 11,
-    FlagByte = 12,
-    WordCount = 13,
-    LentMemoryTooShort = 14,
+    NoWords = 1,
+    TooManyWords = 2,
+    LongWaitList = 3,
+    BadGateState = 4,
+    TooManyInstructions = 5,
+    ShortJournal = 6,
+    ShortOutput = 7,
+    CutImage = 8,
+    WrongTag = 9,
+    WrongLength = 10,
+    WrongVersion = 11,
+    BadFlag = 12,
+    BadWordCount = 13,
+    ShortMemory = 14,
     TrailingBytes = 15,
 }
 
@@ -43,16 +43,16 @@ impl fmt::Display for Refusal {
 /// Reasons 1 and 2, which every run and the image writer check first.
 pub(crate) fn check_memory(words: usize) -> Result<(), Refusal> {
     match words {
-        0 => Err(Refusal::NoMemory),
-        1..=MEMORY_LIMIT => Ok(()),
-        _ => Err(Refusal::MemoryTooLong),
+        0 => Err(Refusal::NoWords),
+        1..=MOST_WORDS => Ok(()),
+        _ => Err(Refusal::TooManyWords),
     }
 }
 
 /// Reason 3, checked after the memory.
 pub(crate) fn check_waits(entries: usize) -> Result<(), Refusal> {
-    if entries > WAIT_LIMIT {
-        return Err(Refusal::WaitListTooLong);
+    if entries > MOST_WAITS {
+        return Err(Refusal::LongWaitList);
     }
     Ok(())
 }

@@ -250,6 +250,6 @@ fn a_refused_clock_leaves_the_lent_state() {
     };
     let mut lent = state;
     let answer = gate_clock(&mut [1], &[], &mut lent);
-    assert_eq!(answer, Err(Refusal::GateState));
+    assert_eq!(answer, Err(Refusal::BadGateState));
     assert_eq!(lent, state);
 }

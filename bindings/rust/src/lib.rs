@@ -6,6 +6,7 @@
 pub mod library;
 mod words;
 
+use words::MACHINE_SIZE;
 pub use words::{Flags, GateState, Machine};
 
 /// Why a call was turned down: the paper's number, 1 to 15.
@@ -112,7 +113,7 @@ pub fn clock(memory: &mut [u32], waits: &[u16], state: &mut GateState) -> Result
 /// Loads an image into the front of `memory`; returns its machine and how many
 /// words it has.
 pub fn read_image(image: &[u8], memory: &mut [u32]) -> Result<(Machine, usize), Refused> {
-    let mut words = [0; 12];
+    let mut words = [0; MACHINE_SIZE];
     let mut result = [0u64; 1];
     carried_out(library::image_read(image, memory, &mut words, &mut result))?;
     Ok((Machine::from_words(&words), result[0] as usize))

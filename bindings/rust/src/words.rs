@@ -1,5 +1,9 @@
 //! The machine and the gate state, and the words that the library takes them as.
 
+/// The words of a machine, and of a gate state.
+pub(crate) const MACHINE_SIZE: usize = 12;
+pub(crate) const STATE_SIZE: usize = 21;
+
 /// The four flags.
 #[derive(Clone, Copy, Debug, Default, PartialEq, Eq)]
 pub struct Flags {
@@ -18,8 +22,8 @@ pub struct Machine {
 
 impl Machine {
     /// r0 to r7, then C, V, N, Z.
-    pub(crate) fn to_words(self) -> [u32; 12] {
-        let mut words = [0; 12];
+    pub(crate) fn to_words(self) -> [u32; MACHINE_SIZE] {
+        let mut words = [0; MACHINE_SIZE];
         words[..8].copy_from_slice(&self.registers);
         words[8] = u32::from(self.flags.carry);
         words[9] = u32::from(self.flags.overflow);
@@ -70,10 +74,10 @@ impl GateState {
         }
     }
 
-    pub(crate) fn to_words(self) -> [u32; 21] {
-        let mut words = [0; 21];
-        words[..12].copy_from_slice(&self.machine.to_words());
-        words[12..].copy_from_slice(&[
+    pub(crate) fn to_words(self) -> [u32; STATE_SIZE] {
+        let mut words = [0; STATE_SIZE];
+        words[..MACHINE_SIZE].copy_from_slice(&self.machine.to_words());
+        words[MACHINE_SIZE..].copy_from_slice(&[
             u32::from(self.row),
             self.instruction,
             self.address,
@@ -89,7 +93,7 @@ impl GateState {
 
     pub(crate) fn from_words(words: &[u32]) -> GateState {
         GateState {
-            machine: Machine::from_words(&words[..12]),
+            machine: Machine::from_words(&words[..MACHINE_SIZE]),
             row: words[12] as u8,
             instruction: words[13],
             address: words[14],

@@ -1,3 +1,3 @@
-pub mod Follows
-pub mod Agreed
-pub mod Bench
+mod Series
+mod TwoRuns
+mod Starred

@@ -7,16 +7,15 @@ use mathlib.Core.Bool.{false}
 use mathlib.Core.List.{List}
 use Rattle.model.specs.declared.GateState.{GateState}
 use Rattle.model.specs.Refusals.{runVerdict, gateVerdict}
-use Rattle.model.specs.Gates.{gate}
+use Rattle.model.specs.GateMachine.{gate}
 use Rattle.model.specs.Agreement.{Mark, markOf, gateMark, machineOf}
 use Rattle.interpreter.specs.declared.RunAnswer.{RunAnswer}
 use Rattle.interpreter.specs.declared.RunResult.{RunResult}
-use Rattle.interpreter.specs.Calls.{runNumber}
-use Rattle.interpreter.specs.Calls as Interpreter
+use Rattle.interpreter.specs.Calls.{Runs, runNumber}
 use Rattle.agreement.specs.Series.{Series}
 
 -- a start: row 0, list position 0, no access begun, no clocks left; registers, flags and latches are any
-pub record Fresh (s : GateState) : Type 0 where
+pub record Start (s : GateState) : Type 0 where
   pub row : s .row ≡ 0
   pub position : s .position ≡ 0
   pub begun : s .begun ≡ false
@@ -30,22 +29,22 @@ runMark r memory = markOf (r .ran) (r .machine) memory
 abbrev pub clockMark : ℕ → GateState → List ℕ → Mark
 clockMark finished s memory = gateMark (gate s memory finished)
 
--- The run of n instructions returned r and left `words`; k clocks finished f instructions, gave the state s and left `words′`.
--- The marks are equal exactly when k is the clock total that was returned; a run that finished ran all n; after "outside" no more finish than ran.
+-- The run of n instructions returned r and left `words`; k clocks finished f instructions, gave the state s and left `words′`. The marks
+-- are equal exactly when k is the clock total that was returned; a run that finished ran all n; after "outside" no more finish than ran.
 pub record InStep (n k : ℕ) (r : RunResult) (words : List ℕ) (f : ℕ) (s : GateState) (words′ : List ℕ) : Type 0 where
   pub marks : clockMark f s words′ ≡ runMark r words ↔ (k ≡ r .clocks)
   pub all : r .answer ≡ RunAnswer.Finished → r .ran ≡ n
   pub outside : r .answer ≡ RunAnswer.Outside → f ≤ r .ran
 
--- For every memory, wait list and start that the interpreter's run does not turn down, for every n, and for every k, done in one gate run or in a
--- series of them: k is the sum of the clocks of the runs and may pass 64 bits, and f is the sum of their counts.
+-- For every memory, wait list and start that the interpreter's run does not turn down, for every n, and for every k, done in one gate run
+-- or in a series of them: k is the sum of the clocks of the runs and may pass 64 bits, and f is the sum of their counts.
 abbrev pub TwoRuns : Type 0
 TwoRuns =
-    (memory waits : List ℕ) (start : GateState) (n k : ℕ) → Fresh start
-    → (r : RunResult) (words : List ℕ) → Interpreter.Runs memory waits (machineOf start) n words r → runNumber (r .answer) ≡ 0
+    (memory waits : List ℕ) (start : GateState) (n k : ℕ) → Start start
+    → (r : RunResult) (words : List ℕ) → Runs memory waits (machineOf start) n words r → runNumber (r .answer) ≡ 0
     → (f : ℕ) (s : GateState) (words′ : List ℕ) → Series waits memory start k f s words′
     → InStep n k r words f s words′
 
 -- the two runs turn the same starts down, for the same reason
 abbrev pub SameVerdict : Type 0
-SameVerdict = (memory waits : List ℕ) (start : GateState) → Fresh start → gateVerdict memory waits start ≡ runVerdict memory waits
+SameVerdict = (memory waits : List ℕ) (start : GateState) → Start start → gateVerdict memory waits start ≡ runVerdict memory waits

@@ -1,4 +1,5 @@
--- Document 01's bench words, as far as the arithmetic unit goes: a row each of operation, a, b, carry and what the unit answers. All compute.
+-- Of document 01's bench words, what the starred cases do not look at: the overflow of operations 7 and 8, and both flags of operation 3. A
+-- row each of operation, a, b, carry and what the unit answers; all compute.
 use Prim.Native.Nat.{ℕ}
 use mathlib.Core.Path.{_≡_, refl}
 use mathlib.Core.Bool.{Bool, true, false}
@@ -19,10 +20,7 @@ row o a b c r d v = record { operation = o; a = a; b = b; c = c; answer = record
 
 rows : List Row
 rows =
-    row 1 0xFFFF_FFFF 0 false 0 true false
-    ∷ row 1 0x7FFF_FFFF 0 false 0x8000_0000 false true
-    ∷ row 7 1 0 false 0xFFFF_FFFF true false
-    ∷ row 4 0x8000_0000 0 false 0x8000_0000 true true
+    row 7 1 0 false 0xFFFF_FFFF true false
     ∷ row 8 1 0 false 0 true false
     ∷ row 8 0 0 true 0x8000_0000 false false
     ∷ row 3 9 1 false 10 false false

@@ -10,7 +10,7 @@ use lib.Signed.{ltZ, leZ}
 use borrow.Author.Tests.{ltb-true, ltb-false, lt-ltb, le-ltb, le-leb, lt-leb, leb-true, leb-false}
 use Rattle.arithmetic.specs.Words.{signedOf, leaves}
 
-abbrev pub Diff : ℤ → ℕ → ℕ → Type 0
+abbrev Diff : ℤ → ℕ → ℕ → Type 0
 Diff (pos n) a b = a ≡ n + b
 Diff (negsuc n) a b = b ≡ suc n + a
 

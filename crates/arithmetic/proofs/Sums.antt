@@ -1,36 +1,23 @@
 -- One law for sums and one for differences, at every width: a word r and a bit d that make the equation of values true are the result and
--- the carry, and the overflow
--- is read off the three top bits.
-use Prim.Native.Nat.{ℕ, zero, suc, _+_, _-_, _*_, _%_, _≤_, _<_, _^_}
+-- the carry, and the overflow is read off the three top bits.
+use Prim.Native.Nat.{ℕ, suc, _+_, _-_, _*_, _%_, _≤_, _<_, _^_}
 use mathlib.Core.Path.{_≡_, refl, sym, ap, ap₂, _∙_}
-use mathlib.Core.Bool.{Bool, true, false, _||_}
+use mathlib.Core.Bool.{Bool, true, false, not, _||_, xor}
 use native.Mathlib.Omega.{arith}
 use native.Mathlib.Nat.{pow-suc, mod-eq-of-lt, add-mul-mod-self-right}
-use lib.Dec.{ltb, leb, eqb}
+use lib.Dec.{ltb, leb}
 use lib.IntN.{ℤ}
+use lib.Pow.{pow-pos}
 use borrow.Author.Tests.{lt-ltb, le-ltb, le-leb, lt-leb, leb-true, leb-false}
 use Rattle.arithmetic.specs.declared.AluOut.{AluOut}
 use Rattle.arithmetic.specs.Words.{asNumber, topOf, overflowOf, leaves}
-use Rattle.arithmetic.specs.Alu.{sumOf, differenceOf}
+use Rattle.arithmetic.specs.Alu.{plainOf, sumOf, differenceOf}
+use Rattle.arithmetic.proofs.Bits.{one, three, bit-le}
 use Rattle.arithmetic.proofs.Integers.{Is, weight, is-move, is-add, is-minus, is-pos, is-signed, is-leaves}
 
 pub out-eq : {r r′ : ℕ} {c c′ v v′ : Bool} → r ≡ r′ → c ≡ c′ → v ≡ v′
     → _≡_ {A = AluOut} (record { result = r; carry = c; overflow = v }) (record { result = r′; carry = c′; overflow = v′ })
 out-eq p q s = λ i. record { result = p i; carry = q i; overflow = s i }
-
-pub bit-le : (c : Bool) → asNumber c ≤ 1
-bit-le true = omega arith
-bit-le false = omega arith
-
--- a bit as a number, and back
-pub digit-bit : (b : Bool) {x : ℕ} → x ≡ asNumber b → eqb x 1 ≡ b
-digit-bit true e = rw e
-digit-bit false e = rw e
-
-pub bit-digit : (x : ℕ) → x ≤ 1 → asNumber (eqb x 1) ≡ x
-bit-digit zero h = refl
-bit-digit (suc zero) h = refl
-bit-digit (suc (suc x)) h = absurd (omega arith)
 
 -- what a top bit says
 abbrev Top : Bool → ℕ → ℕ → Type 0
@@ -44,7 +31,8 @@ top-says h x false e = leb-false h x e
 top-of : (k x : ℕ) → Top (topOf k x) (2 ^ k) x
 top-of k x = top-says (2 ^ k) x (topOf k x) refl
 
--- The true value of a sum or difference, a - b, against the signed reading of its result, r - w: the two are equal, or off by m, the number of words.
+-- The true value of a sum or difference, a - b, against the signed reading of its result, r - w: the two are equal, or off by m, the number
+-- of words.
 pub data Off (a b r w m : ℕ) : Bool → Type 0 where
   exact : a + w ≡ r + b → Off a b r w m false
   lower : a + w + m ≡ r + b → Off a b r w m true
@@ -67,6 +55,7 @@ module _ (h m x y r : ℕ) (c : Bool) (dbl : m ≡ h * 2) (hx : x < m) (hy : y <
   -- a sum, by the top bits and the carry out
   sum-off : (tx ty tr d : Bool) → Top tx h x → Top ty h y → Top tr h r → r + asNumber d * m ≡ x + y + asNumber c
       → Off (x + y + asNumber c) (weight tx m + weight ty m) r (weight tr m) m (overflowOf tx ty tr)
+  unfolding xor
   sum-off true true true true p q s e = exact (omega arith)
   sum-off true true true false p q s e = absurd (omega arith)
   sum-off true true false true p q s e = lower (omega arith)
@@ -133,3 +122,39 @@ module _ (k x y r : ℕ) (c d : Bool) (hx : x < 2 ^ suc k) (hy : y < 2 ^ suc k) 
       (is-move {c = x + weight (topOf k y) (2 ^ suc k)} {d = weight (topOf k x) (2 ^ suc k) + (y + asNumber c)} (is-minus (is-minus (is-signed k x) (is-signed k y)) (is-pos (asNumber c))) (omega arith)) hr
       (turned-off x y r (asNumber c) _ _ _ (2 ^ suc k) _
       (sum-off (2 ^ k) (2 ^ suc k) r y x c (pow-suc 2 k) hr hy hx (bit-le c) (topOf k r) (topOf k y) (topOf k x) d (top-of k r) (top-of k y) (top-of k x) (omega arith)))))
+
+-- a difference is a sum with the complement, and the carry turned round
+pub turned : (r x y q m : ℕ) (d c : Bool) → q + y + 1 ≡ m → r + asNumber d * m ≡ x + q + asNumber (not c) → r + (y + asNumber c) ≡ x + asNumber (xor d true) * m
+unfolding xor
+turned r x y q m true true e h = omega arith
+turned r x y q m true false e h = omega arith
+turned r x y q m false true e h = omega arith
+turned r x y q m false false e h = omega arith
+
+pub top-complement : (k q y : ℕ) → q + y + 1 ≡ 2 ^ suc k → topOf k q ≡ not (topOf k y)
+top-complement k q y e = go (topOf k y) refl
+  where
+    go : (t : Bool) → topOf k y ≡ t → topOf k q ≡ not t
+    go true h = let l : 2 ^ k ≤ y = leb-true (2 ^ k) y h in lt-leb (2 ^ k) q (omega (arith, pow-suc 2 k))
+    go false h = let l : y < 2 ^ k = leb-false (2 ^ k) y h in le-leb (2 ^ k) q (omega (arith, pow-suc 2 k))
+
+-- p less y is s where s and y make p
+pub turned-overflow : (p y s : Bool) → overflowOf p (not y) s ≡ overflowOf s y p
+unfolding xor
+turned-overflow = three _ refl refl refl refl refl refl refl refl
+
+-- nothing and x, or x and nothing, add up to x, without carry and overflow
+none-top : (k : ℕ) → topOf k 0 ≡ false
+none-top k = lt-leb (2 ^ k) 0 (pow-pos k)
+
+pub none-and : (k x : ℕ) → x < 2 ^ suc k → sumOf k 0 x false ≡ plainOf x
+unfolding xor
+none-and k x h =
+    sym (sum-is k 0 x x false false (pow-pos (suc k)) h h (omega arith))
+    ∙ out-eq refl refl (ap (λ (t : Bool). overflowOf t (topOf k x) (topOf k x)) (none-top k) ∙ one (λ t. overflowOf false t t ≡ false) refl refl (topOf k x))
+
+pub and-none : (k x : ℕ) → x < 2 ^ suc k → sumOf k x 0 false ≡ plainOf x
+unfolding xor
+and-none k x h =
+    sym (sum-is k x 0 x false false h (pow-pos (suc k)) h (omega arith))
+    ∙ out-eq refl refl (ap (λ (t : Bool). overflowOf (topOf k x) t (topOf k x)) (none-top k) ∙ one (λ t. overflowOf t false t ≡ false) refl refl (topOf k x))

@@ -1,7 +1,7 @@
 -- Words of any width from 1 bit up, as numbers, and their signed reading. Document 01, "Machine and instruction word", C and V. A width is
 -- written k + 1, so that its half power is `2 ^ k`.
-use Prim.Native.Nat.{ℕ, suc, _^_}
-use mathlib.Core.Bool.{Bool, true, false, not, cond, _&&_, _||_, Bool·beq}
+use Prim.Native.Nat.{ℕ, suc, _+_, _*_, _^_}
+use mathlib.Core.Bool.{Bool, true, false, cond, _&&_, _||_, xor}
 use lib.Dec.{ltb, leb}
 use lib.IntN.{ℤ, pos, negℤ, _-ℤ_}
 use lib.Signed.{ltZ, leZ}
@@ -11,9 +11,9 @@ abbrev pub asNumber : Bool → ℕ
 asNumber true = 1
 asNumber false = 0
 
-infixl 5 _⊕_
-abbrev pub _⊕_ : Bool → Bool → Bool
-a ⊕ b = not (Bool·beq a b)
+-- four bits as a number, the highest first
+abbrev pub nibble : Bool → Bool → Bool → Bool → ℕ
+nibble b3 b2 b1 b0 = 8 * asNumber b3 + 4 * asNumber b2 + 2 * asNumber b1 + asNumber b0
 
 -- the top bit of a word of k + 1 bits
 abbrev pub topOf : ℕ → ℕ → Bool
@@ -21,7 +21,7 @@ topOf k x = leb (2 ^ k) x
 
 -- overflow, from the top bits of two words and of their sum: both have the sign that the sum has not
 abbrev pub overflowOf : Bool → Bool → Bool → Bool
-overflowOf p q s = (p ⊕ s) && (q ⊕ s)
+overflowOf p q s = xor p s && xor q s
 
 -- the signed reading of a word of k + 1 bits: from 2 ^ k on it is 2 ^ (k + 1) less
 unfoldable pub signedOf : ℕ → ℕ → ℤ

@@ -12,7 +12,7 @@ fn top(x: u32) -> bool
 }
 
 // Overflow of x + y, which is r, from the three signs; x is r - y, whose overflow is the same.
-fn overflow(x: u32, y: u32, r: u32) -> bool
+fn overflow_of(x: u32, y: u32, r: u32) -> bool
     ensures { λ v. ⌜ v ≡ overflowOf (topOf 31 x) (topOf 31 y) (topOf 31 r) ⌝ }
 {
     let sign = 0x8000_0000 <= r;
@@ -39,7 +39,7 @@ fn sum(x: u32, y: u32, c: bool) -> AluOut
     AluOut {
         result: r,
         carry: (r < x) | (c & (r == x)),
-        overflow: overflow(x, y, r),
+        overflow: overflow_of(x, y, r),
     }
 }
 
@@ -52,7 +52,7 @@ fn difference(x: u32, y: u32, c: bool) -> AluOut
     AluOut {
         result: r,
         carry: (x < y) | (c & (x == y)),
-        overflow: overflow(r, y, x),
+        overflow: overflow_of(r, y, x),
     }
 }
 

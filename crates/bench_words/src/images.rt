@@ -1,5 +1,5 @@
 // Images made by the writer, some of them spoilt, and their ledgers.
-use image::WriteResult;
+use image::WriteAnswer;
 use image_writer::write;
 use ledger_text::LONGEST_TEXT;
 use ledger_text::ReportAnswer;
@@ -7,6 +7,7 @@ use ledger_text::report;
 use libc::STDOUT_FILENO;
 use model::Flags;
 use model::Machine;
+use text::put_text;
 
 // The first three registers; the others and the flags are 0.
 pub fn machine(r0: u32, r1: u32, r2: u32) -> Machine {
@@ -24,7 +25,7 @@ pub fn machine(r0: u32, r1: u32, r2: u32) -> Machine {
 
 // A case's name and the ledger of so many bytes, in the output that is lent for it.
 fn show_in(name: &[u8], image: &[u8], size: usize, text: &mut [u8]) {
-    let mut memory = [0u32; 4096];
+    let mut memory = [0u32; 4_096];
     io::write_all(STDOUT_FILENO, name);
     if image.len() < size {
         io::write_all(STDOUT_FILENO, b"no image\n");
@@ -48,8 +49,8 @@ fn show(name: &[u8], image: &[u8], size: usize) {
 // The image of some words, put to the front of a buffer; how long it is, 0 where there is no room for it.
 fn make(words: &[u32], start: Machine, image: &mut [u8]) -> usize {
     match write(words, start, image) {
-        WriteResult::Written(size) => size,
-        WriteResult::Refused(_) => 0,
+        WriteAnswer::Written(size) => size,
+        WriteAnswer::Refused(_) => 0,
     }
 }
 
@@ -69,21 +70,15 @@ pub fn show_short(name: &[u8], words: &[u32], start: Machine) {
 
 // So many bytes of the image of some words, with bytes after it.
 pub fn show_part(name: &[u8], words: &[u32], size: usize) {
-    let mut image = [0u8; 16464];
+    let mut image = [0u8; 16_464];
     make(words, machine(0, 0, 0), &mut image);
     show(name, &image, size);
-}
-
-fn change(image: &mut [u8], at: usize, byte: u8) {
-    if at < image.len() {
-        image[at] = byte;
-    }
 }
 
 // An image of one word with one byte changed.
 pub fn show_changed(name: &[u8], at: usize, byte: u8) {
     let mut image = [0u8; 63];
     make(&[0x0001_3C21], machine(0, 0, 0), &mut image);
-    change(&mut image, at, byte);
+    put_text(&mut image, at, &[byte]);
     show(name, &image, 63);
 }

@@ -67,7 +67,7 @@ fn show_values() {
 }
 
 fn show_largest() {
-    let most = [0u32; 4096];
+    let most = [0u32; 4_096];
     show_part(b"4096 words\n", &most, 16452);
     show_part(b"4096 words and a byte\n", &most, 16453);
     show_part(b"4097 words\n", &[0u32; 4097], 16459);

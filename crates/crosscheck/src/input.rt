@@ -21,14 +21,16 @@ pub fn least(a: usize, b: usize) -> usize
     if a < b { a } else { b }
 }
 
-fn wide8(x: u8) -> u32 {
-    x as u32
-}
-
-pub fn next_word() -> u32 {
+fn next_bytes() -> [u8; 4] {
     let mut four = [0u8; 4];
     io::read_full(STDIN_FILENO, &mut four);
-    wide8(four[0]) | wide8(four[1]) << 8 | wide8(four[2]) << 16 | wide8(four[3]) << 24
+    four
+}
+
+// The lowest byte comes first.
+pub fn next_word() -> u32 {
+    let four = next_bytes();
+    four[0] as u32 | (four[1] as u32) << 8 | (four[2] as u32) << 16 | (four[3] as u32) << 24
 }
 
 // A number, at most `most`.

@@ -6,7 +6,7 @@ use model::Flags;
 use model::Machine;
 use model::Refusal;
 use refusals::refusal_number;
-use text::put_decimal;
+use text::put_flag_digits;
 use text::put_hexadecimal;
 
 pub fn print(text: &[u8]) {
@@ -14,10 +14,8 @@ pub fn print(text: &[u8]) {
 }
 
 pub fn print_number(number: u64) {
-    let mut item = [b' '; 21];
-    let digits = put_decimal(&mut item, 1, number);
-    let end = 1 + least(digits, 20);
-    print(&item[0..end]);
+    print(b" ");
+    io::print_decimal(STDOUT_FILENO, number);
 }
 
 pub fn print_word(word: u32) {
@@ -36,16 +34,10 @@ pub fn print_words(words: &[u32], count: usize) {
     }
 }
 
-fn flag_digit(flag: bool) -> u8 {
-    if flag { b'1' } else { b'0' }
-}
-
 fn print_flags(flags: Flags) {
-    let c = flag_digit(flags.carry);
-    let v = flag_digit(flags.overflow);
-    let n = flag_digit(flags.negative);
-    let z = flag_digit(flags.zero);
-    print(&[b' ', c, v, n, z]);
+    let mut item = [b' '; 5];
+    put_flag_digits(&mut item, 1, flags);
+    print(&item);
 }
 
 // cvnz r0..r7

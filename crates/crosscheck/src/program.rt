@@ -15,7 +15,7 @@ use super::print::print_number;
 use super::print::print_refused;
 use super::print::print_words;
 use super::state::run_gates;
-use image::WriteResult;
+use image::WriteAnswer;
 use interpreter::FileAnswer;
 use interpreter::RunAnswer;
 use model::GateState;
@@ -137,7 +137,7 @@ fn sum_of(bytes: &[u8], count: usize) -> u64 {
     sum
 }
 
-fn write_image(words: &[u32], count: usize, start: Machine, bytes: &mut [u8]) -> WriteResult {
+fn write_image(words: &[u32], count: usize, start: Machine, bytes: &mut [u8]) -> WriteAnswer {
     let end = least(count, words.len());
     image_writer::write(&words[0..end], start, bytes)
 }
@@ -153,8 +153,8 @@ fn image_line(memory: List, start: Machine) {
     let mut bytes = [0u8; MOST_IMAGE];
     let words = memory.words;
     match write_image(&words, memory.count, start, &mut bytes) {
-        WriteResult::Written(size) => print_size(size, sum_of(&bytes, size)),
-        WriteResult::Refused(why) => print_refused(b"image", why),
+        WriteAnswer::Written(size) => print_size(size, sum_of(&bytes, size)),
+        WriteAnswer::Refused(why) => print_refused(b"image", why),
     }
 }
 

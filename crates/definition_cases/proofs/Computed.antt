@@ -6,18 +6,18 @@ use Rattle.arithmetic.specs.Alu.{sumOf, differenceOf, halvedOf, answers, aluAt,
 use Rattle.model.specs.Words.{field, bit}
 use Rattle.model.specs.Operands.{operandA, operandB}
 use Rattle.model.specs.Alu.{isMove, operation, alu, flagsAfter, stores}
-use Rattle.model.specs.Packed.{packedOf, flagsOf}
-use Rattle.model.specs.Waits.{waitAt, nextWait, waitSum, positionAfter}
+use Rattle.model.specs.Packed.{packedOf, flagsOf, latchWords}
+use Rattle.model.specs.Waits.{waitAt, nextPosition, waitSum, positionAfter}
 use Rattle.model.specs.Interpreter.{execute, stop, advance, interpret}
-use Rattle.model.specs.Gates.{work, isAccess, remaining, positionNow, workOrWait, clock, gateRun}
+use Rattle.model.specs.GateMachine.{work, isAccess, remaining, positionNow, workOrWait, clock, gateRun}
 use Rattle.model.specs.Journal.{storedBy, journalPairs, journalWords}
 use Rattle.definition_cases.specs.Shape.{runFailures, gateFailures}
 use Rattle.definition_cases.specs.Cases.{runCases, gateCases}
 
 pub runs : runFailures 0 runCases ≡ []
-unfolding field bit packedOf flagsOf operandA operandB signedOf leaves sumOf differenceOf halvedOf answers aluAt aluOf isMove operation alu flagsAfter stores waitAt nextWait waitSum positionAfter execute stop advance interpret storedBy journalPairs journalWords
+unfolding field bit packedOf flagsOf operandA operandB signedOf leaves sumOf differenceOf halvedOf answers aluAt aluOf isMove operation alu flagsAfter stores waitAt nextPosition waitSum positionAfter execute stop advance interpret storedBy journalPairs journalWords
 runs = refl
 
 pub gates : gateFailures 0 gateCases ≡ []
-unfolding field bit packedOf flagsOf operandA operandB signedOf leaves sumOf differenceOf halvedOf answers aluAt aluOf isMove operation alu flagsAfter stores waitAt nextWait work isAccess remaining positionNow workOrWait clock gateRun
+unfolding field bit packedOf flagsOf latchWords operandA operandB signedOf leaves sumOf differenceOf halvedOf answers aluAt aluOf isMove operation alu flagsAfter stores waitAt nextPosition work isAccess remaining positionNow workOrWait clock gateRun
 gates = refl

@@ -1,1 +1,1 @@
-pub mod Computed
+mod Computed

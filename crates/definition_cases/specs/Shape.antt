@@ -5,13 +5,12 @@ use mathlib.Core.Bool.{Bool, true, false, cond, _&&_, Bool·beq}
 use mathlib.Core.List.{List, [], _∷_}
 use lib.Dec.{eqb}
 use lib.ListN.{getD}
-use Rattle.arithmetic.specs.Words.{asNumber}
 use Rattle.model.specs.declared.GateState.{GateState}
 use Rattle.model.specs.declared.Ending.{Ending}
 use Rattle.model.specs.declared.Ending.the-variants.{Finished, Outside}
-use Rattle.model.specs.Packed.{packedOf, flagsOf}
-use Rattle.model.specs.Interpreter.{begin, interpret}
-use Rattle.model.specs.Gates.{gateRun}
+use Rattle.model.specs.Packed.{packedOf, flagsOf, latchWords}
+use Rattle.model.specs.Interpreter.{machine, begin, interpret}
+use Rattle.model.specs.GateMachine.{gateRun}
 use Rattle.model.specs.Agreement.{gateFrom}
 use Rattle.model.specs.Journal.{journalPairs, journalWords}
 
@@ -32,7 +31,7 @@ pub data RunCase : Type 0 where
 
 abbrev pub runHolds : RunCase → Bool
 runHolds (runCase memory regs flags waits n memory′ regs′ flags′ journal ran clocks outside) =
-    let start = begin (record { regs = regs; flags = flagsOf flags }) memory 0 in
+    let start = begin (machine regs (flagsOf flags)) memory 0 in
     let r = interpret waits n start in
     same (r .memory) memory′
     && same (r .machine .regs) regs′
@@ -47,8 +46,8 @@ runHolds (runCase memory regs flags waits n memory′ regs′ flags′ journal r
 pub data GateCase : Type 0 where
   gateCase : (memory waits regs latches : List ℕ) (clocks : ℕ) (memory′ regs′ latches′ : List ℕ) (finished : ℕ) → GateCase
 
-abbrev pub stateOf : List ℕ → List ℕ → GateState
-stateOf regs latches =
+abbrev pub caseState : List ℕ → List ℕ → GateState
+caseState regs latches =
     record {
       regs = regs;
       flags = flagsOf (getD latches 0 0);
@@ -64,12 +63,11 @@ stateOf regs latches =
     }
 
 abbrev pub latchesOf : GateState → List ℕ
-latchesOf s =
-    packedOf (s .flags) ∷ s .row ∷ s .instruction ∷ s .address ∷ s .a ∷ s .b ∷ s .result ∷ s .position ∷ asNumber (s .begun) ∷ s .left ∷ []
+latchesOf s = packedOf (s .flags) ∷ latchWords s
 
 abbrev pub gateHolds : GateCase → Bool
 gateHolds (gateCase memory waits regs latches clocks memory′ regs′ latches′ finished) =
-    let g = gateRun waits clocks (gateFrom (stateOf regs latches) memory) in
+    let g = gateRun waits clocks (gateFrom (caseState regs latches) memory) in
     same (g .memory) memory′
     && same (g .state .regs) regs′
     && same (latchesOf (g .state)) latches′

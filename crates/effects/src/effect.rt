@@ -15,14 +15,14 @@ ghost use Rattle.model.specs.Packed.{packedOf, flagsOf};
 pub fn is_move(word: u32) -> bool
     ensures { λ r. ⌜ r ≡ isMove word ⌝ }
 {
-    word / 32768 % 2 == 1
+    word / 32_768 % 2 == 1
 }
 
 // The operation's number.
 pub fn operation_of(word: u32) -> u8
     ensures { λ r. ⌜ r ≡ operation word ⌝ }
 {
-    (word / 65536 % 16) as u8
+    (word / 65_536 % 16) as u8
 }
 
 // The operation that the arithmetic unit is told; a move is operation 0.
@@ -50,7 +50,7 @@ fn condition_of(op: u8, flags: u32) -> bool
 }
 
 // Whether the result is stored, on packed flags: the one place where this is decided.
-pub fn stores_on(word: u32, flags: u32) -> bool
+pub fn stores_packed(word: u32, flags: u32) -> bool
     ensures { λ r. ⌜ r ≡ stores word (flagsOf flags) ⌝ }
 {
     if is_move(word) {
@@ -60,17 +60,17 @@ pub fn stores_on(word: u32, flags: u32) -> bool
     }
 }
 
-pub fn is_stored(word: u32, flags: Flags) -> bool
+pub fn stores_apart(word: u32, flags: Flags) -> bool
     ensures { λ r. ⌜ r ≡ stores word flags ⌝ }
 {
-    stores_on(word, packed(flags))
+    stores_packed(word, packed(flags))
 }
 
 // The permitted flags from the unit's answer, the others as they were; packed. A permit stands at its flag's bit.
-pub fn set_flags(word: u32, flags: u32, out: AluOut) -> u32
+pub fn flags_after_packed(word: u32, flags: u32, out: AluOut) -> u32
     ensures { λ r. ⌜ r ≡ packedOf (flagsAfter word (flagsOf flags) out) ⌝ }
 {
-    let permits = word / 1024 % 16;
+    let permits = word / 1_024 % 16;
     let answer = packed(Flags {
         carry: out.carry,
         overflow: out.overflow,
@@ -80,8 +80,8 @@ pub fn set_flags(word: u32, flags: u32, out: AluOut) -> u32
     (flags % 16 & (15 - permits)) | (answer & permits)
 }
 
-pub fn flags_after(word: u32, flags: Flags, out: AluOut) -> Flags
+pub fn flags_after_apart(word: u32, flags: Flags, out: AluOut) -> Flags
     ensures { λ r. ⌜ r ≡ flagsAfter word flags out ⌝ }
 {
-    unpacked(set_flags(word, packed(flags), out))
+    unpacked(flags_after_packed(word, packed(flags), out))
 }

@@ -1,5 +1,5 @@
-// The four flags as the bits of one number, in the order in which an instruction word permits them. One number is quicker to carry through a run
-// than four truths. Bit 0 is divided by 1, so that it is read as the others are.
+// The four flags as the bits of one number, in the order in which an instruction word permits them. One number is quicker to carry through
+// a run than four truths. Bit 0 is divided by 1, so that it is read as the others are.
 use model::Flags;
 ghost use mathlib.Core.Path.{_≡_};
 ghost use Rattle.model.specs.Packed.{packedOf, flagsOf};

@@ -2,12 +2,12 @@
 mod effect;
 mod flags;
 
-pub use effect::flags_after;
+pub use effect::flags_after_apart;
+pub use effect::flags_after_packed;
 pub use effect::is_move;
-pub use effect::is_stored;
 pub use effect::operation_of;
-pub use effect::set_flags;
-pub use effect::stores_on;
+pub use effect::stores_apart;
+pub use effect::stores_packed;
 pub use effect::unit_operation;
 pub use flags::carry;
 pub use flags::packed;

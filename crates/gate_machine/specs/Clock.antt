@@ -5,17 +5,17 @@ use mathlib.Core.Bool.{Bool, true, false, not, cond}
 use mathlib.Core.List.{List}
 use lib.Dec.{eqb}
 use Rattle.model.specs.declared.GateState.{GateState}
-use Rattle.model.specs.Gates.{gate, remaining, positionNow, clock}
+use Rattle.model.specs.GateMachine.{gate, remaining, positionNow, clock}
 use Rattle.gate_rows.specs.Work.{counted}
 use Rattle.gate_machine.specs.declared.access.Grant.{Grant}
 
 -- an acknowledged access with `left` clocks after this one, at position p: on the last one the row works
 abbrev pub acknowledgedAt : (left p : ℕ) → Grant
-acknowledgedAt left p = record { position = p; left = left; begun = not (eqb left 0); works = eqb left 0 }
+acknowledgedAt left p = record { position = p; left = left; begun = not (eqb left 0); works = eqb left 0; stuck = false }
 
--- the access as it was
+-- the access as it was; without work it is so on every clock
 abbrev pub untouchedAt : Bool → GateState → Grant
-untouchedAt works s = record { position = s .position; left = s .left; begun = s .begun; works = works }
+untouchedAt works s = record { position = s .position; left = s .left; begun = s .begun; works = works; stuck = not works }
 
 -- a row that is no access works at once; an absent address is never acknowledged
 unfoldable pub grantOf : (access here : Bool) → List ℕ → GateState → Grant
@@ -28,3 +28,7 @@ grantOf access here waits s =
 abbrev pub Ticks : List ℕ → GateState → List ℕ → GateState → Bool → List ℕ → Type 0
 Ticks waits s memory s′ finished memory′ =
     (f : ℕ) → gate s′ memory′ (counted finished f) ≡ clock waits (gate s memory f)
+
+-- where the machine is stuck, no clock changes anything
+abbrev pub Stands : List ℕ → GateState → List ℕ → Bool → Type 0
+Stands waits s memory stuck = stuck ≡ true → (f : ℕ) → clock waits (gate s memory f) ≡ gate s memory f

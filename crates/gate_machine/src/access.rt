@@ -3,18 +3,19 @@ use gate_rows::Latches;
 use operands::wide;
 ghost use mathlib.Core.Path.{_≡_};
 ghost use mathlib.Core.List.{[]};
-ghost use Prim.Native.Nat.{_≤_};
+ghost use Prim.Native.Nat.{_-_, _≤_};
 ghost use lib.Dec.{ltb};
 ghost use lib.ListN.{length};
-ghost use Rattle.model.specs.Waits.{waitAt, nextWait};
-ghost use Rattle.model.specs.Gates.{oneLess};
+ghost use Rattle.model.specs.Waits.{waitAt, nextPosition};
+ghost use Rattle.model.specs.Refusals.{mostWaits};
 ghost use Rattle.gate_rows.specs.Work.{stateOf};
 ghost use Rattle.gate_machine.specs.Clock.{acknowledgedAt, untouchedAt, grantOf};
 
-// Whether the row's work is done, and the access as this clock leaves it.
+// Whether the row's work is done, whether it never will be, and the access as this clock leaves it.
 // Not packed into eight bytes: those would travel as one word, to be taken apart on each clock.
 pub struct Grant {
     pub works: bool,
+    pub stuck: bool,
     pub position: u32,
     pub begun: bool,
     pub left: u16,
@@ -27,9 +28,9 @@ fn wait_at(waits: &[u16], position: u32) -> u16
     if i < waits.len() { waits[i] } else { 0 }
 }
 
-fn next_wait(waits: &[u16], position: u32) -> u32
-    requires { ⌜ length (now waits) ≤ 65536 ⌝ }
-    ensures { λ r. ⌜ r ≡ nextWait (now (waits .entry)) position ⌝ }
+fn next_position(waits: &[u16], position: u32) -> u32
+    requires { ⌜ length (now waits) ≤ mostWaits ⌝ }
+    ensures { λ r. ⌜ r ≡ nextPosition (now (waits .entry)) position ⌝ }
 {
     if wide(position) < waits.len() {
         position + 1
@@ -39,7 +40,7 @@ fn next_wait(waits: &[u16], position: u32) -> u32
 }
 
 fn one_less(left: u16) -> u16
-    ensures { λ r. ⌜ r ≡ oneLess left ⌝ }
+    ensures { λ r. ⌜ r ≡ left - 1 ⌝ }
 {
     if 0 < left { left - 1 } else { 0 }
 }
@@ -53,6 +54,7 @@ fn acknowledged(left: u16, position: u32) -> Grant
         left,
         begun: left != 0,
         works: left == 0,
+        stuck: false,
     }
 }
 
@@ -65,12 +67,13 @@ fn untouched(s: Latches, works: bool) -> Grant
         left: s.left,
         begun: s.begun,
         works,
+        stuck: !works,
     }
 }
 
 // A row that is no access works at once; an absent address is never acknowledged.
 pub fn granted(s: Latches, access: bool, words: usize, waits: &[u16]) -> Grant
-    requires { ⌜ length (now waits) ≤ 65536 ⌝ }
+    requires { ⌜ length (now waits) ≤ mostWaits ⌝ }
     ensures { λ r. ⌜ r ≡ grantOf access (ltb (s .address) words) (now (waits .entry)) (stateOf [] s) ⌝ }
 {
     if !access {
@@ -82,5 +85,5 @@ pub fn granted(s: Latches, access: bool, words: usize, waits: &[u16]) -> Grant
     if s.begun {
         return acknowledged(one_less(s.left), s.position);
     }
-    acknowledged(wait_at(waits, s.position), next_wait(waits, s.position))
+    acknowledged(wait_at(waits, s.position), next_position(waits, s.position))
 }

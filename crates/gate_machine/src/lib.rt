@@ -8,7 +8,7 @@ use model::GateState;
 use model::Refusal;
 use model::Verdict;
 use refusals::gate_verdict;
-ghost use Rattle.gate_machine.specs.Calls.{Runs, Clocks, LentClock};
+ghost use Rattle.gate_machine.specs.Calls.{GateRuns, Clocks, LentClock};
 
 pub enum GateAnswer {
     Ran,
@@ -22,19 +22,19 @@ pub struct GateResult {
 }
 
 // A gate result without its state.
-pub struct Outcome {
+pub struct ClockResult {
     pub answer: GateAnswer,
     pub finished: u64,
 }
 
 struct Clocked {
-    outcome: Outcome,
+    outcome: ClockResult,
     state: GateState,
 }
 
 // All the clocks that are asked for, unless the call is turned down.
 pub fn run(memory: &mut [u32], waits: &[u16], start: GateState, clocks: u64) -> GateResult
-    ensures { λ r. ⌜ Runs (now (memory .entry)) (now (waits .entry)) start clocks (now (memory .exit)) r ⌝ }
+    ensures { λ r. ⌜ GateRuns (now (memory .entry)) (now (waits .entry)) start clocks (now (memory .exit)) r ⌝ }
 {
     let verdict = gate_verdict(&*memory, waits, start);
     match verdict {
@@ -56,13 +56,13 @@ pub fn run(memory: &mut [u32], waits: &[u16], start: GateState, clocks: u64) -> 
 }
 
 // A run of one clock.
-fn clock(state: GateState, memory: &mut [u32], waits: &[u16]) -> Clocked
+fn clock(memory: &mut [u32], waits: &[u16], state: GateState) -> Clocked
     ensures { λ r. ⌜ Clocks (now (memory .entry)) (now (waits .entry)) state (now (memory .exit)) r ⌝ }
 {
     let r = run(memory, waits, state, 1);
     let answer = r.answer;
     let after = r.state;
-    let outcome = Outcome {
+    let outcome = ClockResult {
         answer,
         finished: r.finished,
     };
@@ -73,11 +73,11 @@ fn clock(state: GateState, memory: &mut [u32], waits: &[u16]) -> Clocked
 }
 
 // One clock on a borrowed state: copied out, clocked by value, stored.
-pub fn clock_lent(state: &mut GateState, memory: &mut [u32], waits: &[u16]) -> Outcome
+pub fn clock_lent(memory: &mut [u32], waits: &[u16], state: &mut GateState) -> ClockResult
     ensures { λ r. ⌜ LentClock (now (memory .entry)) (now (waits .entry)) (now (state .entry)) (now (memory .exit)) (now (state .exit)) r ⌝ }
 {
     let s = *state;
-    let r = clock(s, memory, waits);
+    let r = clock(memory, waits, s);
     *state = r.state;
     r.outcome
 }

@@ -13,16 +13,18 @@ use step_table::steps;
 ghost use mathlib.Core.Path.{_≡_};
 ghost use Prim.Native.Nat.{_≤_};
 ghost use lib.ListN.{length};
-ghost use Rattle.model.specs.Refusals.{gateVerdict};
-ghost use Rattle.model.specs.Gates.{gate, gateRun};
+ghost use Rattle.model.specs.Refusals.{mostWaits, gateVerdict};
+ghost use Rattle.model.specs.GateMachine.{gate, gateRun};
 ghost use Rattle.model.specs.Agreement.{gateFrom};
 ghost use Rattle.step_table.specs.Table.{stepOf};
 ghost use Rattle.gate_rows.specs.Work.{stateOf};
-ghost use Rattle.gate_machine.specs.Clock.{Ticks};
+ghost use Rattle.gate_machine.specs.Clock.{Ticks, Stands};
 
+// Stuck: no further clock changes anything.
 struct Ticked {
     latches: Latches,
     finished: bool,
+    stuck: bool,
 }
 
 pub struct GateEnd {
@@ -32,8 +34,8 @@ pub struct GateEnd {
 
 // The step is the one of the state's row.
 fn tick(s: Latches, step: Step, regs: &mut [u32; 8], memory: &mut [u32], waits: &[u16]) -> Ticked
-    requires { ⌜ (step ≡ stepOf (s .row)) × (length (now waits) ≤ 65536) ⌝ }
-    ensures { λ r. ⌜ Ticks (now (waits .entry)) (stateOf (now (regs .entry)) s) (now (memory .entry)) (stateOf (now (regs .exit)) (r .latches)) (r .finished) (now (memory .exit)) ⌝ }
+    requires { ⌜ (step ≡ stepOf (s .row)) × (length (now waits) ≤ mostWaits) ⌝ }
+    ensures { λ r. ⌜ Ticks (now (waits .entry)) (stateOf (now (regs .entry)) s) (now (memory .entry)) (stateOf (now (regs .exit)) (r .latches)) (r .finished) (now (memory .exit)) × Stands (now (waits .entry)) (stateOf (now (regs .exit)) (r .latches)) (now (memory .exit)) (r .stuck) ⌝ }
 {
     let grant = granted(s, step.3 == ACCESS, memory.len(), waits);
     let mut t = s;
@@ -44,16 +46,18 @@ fn tick(s: Latches, step: Step, regs: &mut [u32; 8], memory: &mut [u32], waits: 
         return Ticked {
             latches: t,
             finished: false,
+            stuck: grant.stuck,
         };
     }
     let u = work(t, step, regs, memory);
     Ticked {
         latches: u,
         finished: step.3 == FINISHES,
+        stuck: false,
     }
 }
 
-// The step table and the registers stay in place: a clock copies neither.
+// The step table and the registers stay in place: a clock copies neither. A machine that is stuck is not clocked to the end.
 pub fn run_clocks(memory: &mut [u32], waits: &[u16], start: GateState, clocks: u64) -> GateEnd
     requires { ⌜ gateVerdict (now memory) (now waits) start ≡ Verdict.Accepted ⌝ }
     ensures { λ r. ⌜ gate (r .state) (now (memory .exit)) (r .finished) ≡ gateRun (now (waits .entry)) clocks (gateFrom start (now (memory .entry))) ⌝ }
@@ -70,6 +74,12 @@ pub fn run_clocks(memory: &mut [u32], waits: &[u16], start: GateState, clocks: u
         s = next;
         finished += t.finished as u64;
         i += 1;
+        if t.stuck {
+            return GateEnd {
+                state: state_of(regs, s),
+                finished,
+            };
+        }
     }
     GateEnd {
         state: state_of(regs, s),

@@ -1,2 +1,2 @@
-pub mod Laws
-pub mod StepLaws
+mod Rows
+pub mod Steps

@@ -8,7 +8,7 @@ use Rattle.model.specs.declared.Operand.{Operand}
 use Rattle.model.specs.declared.GateState.{GateState}
 use Rattle.model.specs.Operands.{operandA, operandB, inMemory}
 use Rattle.model.specs.Alu.{stores}
-use Rattle.model.specs.Gates.{gate, withRow, work}
+use Rattle.model.specs.GateMachine.{gate, withRow, work}
 use Rattle.step_table.specs.declared.Step.{Step}
 use Rattle.step_table.specs.Table.{memoryRow, directRow, skippedRow}
 use Rattle.gate_rows.specs.declared.latches.Latches.{Latches}
@@ -29,6 +29,10 @@ stateOf regs s =
       begun = s .begun;
       left = s .left;
     }
+
+-- what a row does to the latches alone: f of the state, whatever the registers
+abbrev pub Becomes : Latches → (GateState → GateState) → Latches → Type 0
+Becomes s f s′ = (regs : List ℕ) → stateOf regs s′ ≡ f (stateOf regs s)
 
 -- ---- where a step leads
 
@@ -63,7 +67,7 @@ leads step s r = getD (nextRows step s) r (s .row)
 -- ---- the contract of a row's work
 
 -- the state and the memory after the model's work, but that the step says where it leads
-pub record Works (step : Step) (s : Latches) (regs memory : List ℕ) (s′ : Latches) (regs′ memory′ : List ℕ) : Type 0 where
+pub record Works (s : Latches) (step : Step) (regs memory : List ℕ) (s′ : Latches) (regs′ memory′ : List ℕ) : Type 0 where
   pub state : stateOf regs′ s′ ≡ withRow (leads step (stateOf regs s) (s .row)) (work (gate (stateOf regs s) memory 0) .state)
   pub words : memory′ ≡ work (gate (stateOf regs s) memory 0) .memory
 

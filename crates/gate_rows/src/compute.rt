@@ -1,10 +1,10 @@
 // Row 7: the arithmetic unit of gates, the flags, and where the result goes.
 use super::latches::Latches;
 use arithmetic::AluOut;
-use effects::flags_after;
+use effects::flags_after_apart;
 use effects::is_move;
-use effects::is_stored;
 use effects::operation_of;
+use effects::stores_apart;
 use gates::gate_unit;
 use model::Flags;
 use operands::in_memory;
@@ -12,11 +12,11 @@ use operands::operand_b;
 use step_table::Step;
 ghost use mathlib.Core.Path.{_≡_};
 ghost use mathlib.Core.Bool.{cond};
-ghost use mathlib.Core.List.{List, []};
-ghost use Prim.Native.Nat.{ℕ};
+ghost use mathlib.Core.List.{[]};
 ghost use Rattle.model.specs.Alu.{alu};
-ghost use Rattle.model.specs.Gates.{withRow, compute};
-ghost use Rattle.gate_rows.specs.Work.{stateOf, storeRow};
+ghost use Rattle.model.specs.GateMachine.{withRow, compute};
+ghost use Rattle.step_table.specs.Table.{memoryRow, directRow, skippedRow};
+ghost use Rattle.gate_rows.specs.Work.{Becomes, storeRow};
 
 // The arithmetic unit of gates, told by the instruction word. A move goes past it, which spares it the network: operation 0 gives the same.
 fn unit_of(word: u32, flags: Flags, a: u32, b: u32) -> AluOut
@@ -33,12 +33,12 @@ fn unit_of(word: u32, flags: Flags, a: u32, b: u32) -> AluOut
 }
 
 // One of a step's three next rows.
-fn chosen(stored: bool, far: bool, step: Step) -> u8
-    ensures { λ r. ⌜ r ≡ cond stored (cond far (step .0) (step .1)) (step .2) ⌝ }
+fn chosen(stored: bool, mem: bool, step: Step) -> u8
+    ensures { λ r. ⌜ r ≡ cond stored (cond mem (memoryRow step) (directRow step)) (skippedRow step) ⌝ }
 {
     let Step(memory, direct, skipped, _) = step;
     if stored {
-        if far { memory } else { direct }
+        if mem { memory } else { direct }
     } else {
         skipped
     }
@@ -46,13 +46,13 @@ fn chosen(stored: bool, far: bool, step: Step) -> u8
 
 // Storing is decided on the flags before the instruction.
 pub fn compute(mut s: Latches, step: Step) -> Latches
-    ensures { λ r. ⌜ ((regs : List ℕ) → stateOf regs r ≡ withRow (storeRow step (stateOf regs s)) (compute [] (stateOf regs s))) ⌝ }
+    ensures { λ r. ⌜ Becomes s (λ t. withRow (storeRow step t) (compute [] t)) r ⌝ }
 {
     let word = s.instruction;
     let flags = s.flags;
     let out = unit_of(word, flags, s.a, s.b);
-    let after = flags_after(word, flags, out);
-    let next = chosen(is_stored(word, flags), in_memory(operand_b(word)), step);
+    let after = flags_after_apart(word, flags, out);
+    let next = chosen(stores_apart(word, flags), in_memory(operand_b(word)), step);
     s.flags = after;
     s.result = out.result;
     s.row = next;

@@ -16,20 +16,19 @@ use registers::step_up;
 use step_table::Step;
 ghost use mathlib.Core.Path.{_≡_};
 ghost use mathlib.Core.Bool.{cond};
-ghost use mathlib.Core.List.{List};
-ghost use Prim.Native.Nat.{ℕ};
-ghost use Rattle.model.specs.Gates.{withRow, withInstruction, withAddress, withA, withB, prepare};
-ghost use Rattle.gate_rows.specs.Work.{stateOf, Works};
+ghost use Rattle.model.specs.GateMachine.{withRow, withInstruction, withAddress, withA, withB, prepare};
+ghost use Rattle.step_table.specs.Table.{memoryRow, directRow};
+ghost use Rattle.gate_rows.specs.Work.{stateOf, Becomes, Works};
 
 fn moved(mut s: Latches, next: u8) -> Latches
-    ensures { λ r. ⌜ ((regs : List ℕ) → stateOf regs r ≡ withRow next (stateOf regs s)) ⌝ }
+    ensures { λ r. ⌜ Becomes s (withRow next) r ⌝ }
 {
     s.row = next;
     s
 }
 
 fn latch_instruction(mut s: Latches, x: u32, next: u8) -> Latches
-    ensures { λ r. ⌜ ((regs : List ℕ) → stateOf regs r ≡ withRow next (withInstruction x (stateOf regs s))) ⌝ }
+    ensures { λ r. ⌜ Becomes s (λ t. withRow next (withInstruction x t)) r ⌝ }
 {
     s.instruction = x;
     s.row = next;
@@ -37,7 +36,7 @@ fn latch_instruction(mut s: Latches, x: u32, next: u8) -> Latches
 }
 
 fn latch_address(mut s: Latches, x: u32, next: u8) -> Latches
-    ensures { λ r. ⌜ ((regs : List ℕ) → stateOf regs r ≡ withRow next (withAddress x (stateOf regs s))) ⌝ }
+    ensures { λ r. ⌜ Becomes s (λ t. withRow next (withAddress x t)) r ⌝ }
 {
     s.address = x;
     s.row = next;
@@ -45,7 +44,7 @@ fn latch_address(mut s: Latches, x: u32, next: u8) -> Latches
 }
 
 fn latch_a(mut s: Latches, x: u32, next: u8) -> Latches
-    ensures { λ r. ⌜ ((regs : List ℕ) → stateOf regs r ≡ withRow next (withA x (stateOf regs s))) ⌝ }
+    ensures { λ r. ⌜ Becomes s (λ t. withRow next (withA x t)) r ⌝ }
 {
     s.a = x;
     s.row = next;
@@ -53,7 +52,7 @@ fn latch_a(mut s: Latches, x: u32, next: u8) -> Latches
 }
 
 fn latch_b(mut s: Latches, x: u32, next: u8) -> Latches
-    ensures { λ r. ⌜ ((regs : List ℕ) → stateOf regs r ≡ withRow next (withB x (stateOf regs s))) ⌝ }
+    ensures { λ r. ⌜ Becomes s (λ t. withRow next (withB x t)) r ⌝ }
 {
     s.b = x;
     s.row = next;
@@ -62,7 +61,7 @@ fn latch_b(mut s: Latches, x: u32, next: u8) -> Latches
 
 // The register of A, or of B as the second operand, steps down; then its word is the address, or the operand where that is direct.
 fn prepare(s: Latches, o: Operand, second: bool, regs: &mut [u32; 8], step: Step) -> Latches
-    ensures { λ r. ⌜ stateOf (now (regs .exit)) r ≡ prepare o (step .0) (step .1) (cond second withB withA) (stateOf (now (regs .entry)) s) ⌝ }
+    ensures { λ r. ⌜ stateOf (now (regs .exit)) r ≡ prepare o (memoryRow step) (directRow step) (cond second withB withA) (stateOf (now (regs .entry)) s) ⌝ }
 {
     step_down(o, &mut *regs);
     let word = register_word(o, &*regs);
@@ -77,7 +76,7 @@ fn prepare(s: Latches, o: Operand, second: bool, regs: &mut [u32; 8], step: Step
 
 // The work of the row that the machine is in, with its step of the table; past the table there is none.
 pub fn work(s: Latches, step: Step, regs: &mut [u32; 8], memory: &mut [u32]) -> Latches
-    ensures { λ r. ⌜ Works step s (now (regs .entry)) (now (memory .entry)) r (now (regs .exit)) (now (memory .exit)) ⌝ }
+    ensures { λ r. ⌜ Works s step (now (regs .entry)) (now (memory .entry)) r (now (regs .exit)) (now (memory .exit)) ⌝ }
 {
     let row = s.row;
     let word = s.instruction;

@@ -1,5 +1,5 @@
-pub mod Turns
-pub mod Worth
-pub mod RowWorth
-pub mod Adders
-pub mod Network
+mod Turns
+mod Worth
+mod RowWorth
+mod Adders
+mod Network

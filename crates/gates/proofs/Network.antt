@@ -1,24 +1,24 @@
 -- The unit's network answers as the definition does, at every width of k + 1 bits and with any adder.
-use Prim.Native.Nat.{ℕ, suc, _+_, _-_, _*_, _/_, _%_, _^_, _≤_, _<_}
+use Prim.Native.Nat.{ℕ, suc, _+_, _-_, _*_, _/_, _%_, _^_, _<_}
 use mathlib.Core.Path.{_≡_, refl, sym, ap, _∙_}
-use mathlib.Core.Bool.{Bool, true, false, not, _&&_, _||_}
+use mathlib.Core.Bool.{Bool, true, false, not, _&&_, _||_, xor, or-false}
 use mathlib.Core.List.{List}
 use native.Mathlib.Omega.{arith}
-use native.Mathlib.Nat.{div-div-eq-div-mul, div-add-mod'}
 use lib.ListN.{length, getD}
 use lib.Dec.{eqb}
 use Rattle.arithmetic.specs.declared.AluOut.{AluOut}
 use Rattle.arithmetic.specs.Words.{asNumber, overflowOf}
 use Rattle.arithmetic.specs.Alu.{plainOf, sumOf, differenceOf, halvedOf, answers, aluAt, aluOf}
-use Rattle.arithmetic.proofs.Sums.{out-eq, bit-le, bit-digit}
+use Rattle.arithmetic.proofs.Bits.{xor-false, xor-true, low-nibble}
 use Rattle.arithmetic.proofs.Integers.{weight}
+use Rattle.arithmetic.proofs.Sums.{out-eq, none-and, and-none}
 use Rattle.gates.specs.declared.control.Lines.{Lines}
-use Rattle.gates.specs.Gates.{value, bitsOf, rippleSum, rippleCarry, codeOf, linesOf, firstRow, secondRow, carryOut}
+use Rattle.gates.specs.Gates.{value, bitsOf, rippleSum, rippleCarry, linesOf, firstRow, secondRow, carryOut}
 use Rattle.gates.specs.Theorems.{Adds, outOf, UnitAtEveryWidth, RippleUnit}
 use Rattle.gates.proofs.Turns.{length-bits}
-use Rattle.gates.proofs.Worth.{one, xor-false, xor-true, ripple-adds, value-bits, value-below, value-top, value-low}
+use Rattle.gates.proofs.Worth.{ripple-adds, value-bits, value-below, value-top, value-low}
 use Rattle.gates.proofs.RowWorth.{pick-first, pick-second, first-length, table-value, none-digits, a-digits, b-digits, and-digits, or-digits, xor-digits, not-value, shift-value, second-length, second-value, second-turned}
-use Rattle.gates.proofs.Adders.{flagged, adder-sum, adder-difference, none-and, and-none}
+use Rattle.gates.proofs.Adders.{flagged, adder-sum, adder-difference}
 
 -- a shift puts the bit that it drops into the carry
 abbrev dropped : Bool → Bool → AluOut → AluOut
@@ -69,50 +69,33 @@ module _ (k : ℕ) (l : Lines) (a b s : List Bool) (d : Bool) (la : length a ≡
         carry = ((λ j. (e j && getD a 0 false) || false) ∙ or-false (getD a 0 false) ∙ sym (value-low a)) i;
         overflow = false;
       })
-    where
-      or-false : (x : Bool) → (x || false) ≡ x
-      or-false = one _ refl refl
 
 -- ---- the sixteen operations
 
-pub unit-right : UnitAtEveryWidth
-unfolding aluAt answers
-unit-right k a b s d c la lb false false false false h = sums k _ a b s d la lb h refl refl refl (table-value _ _ refl none-digits a b (lb ∙ sym la)) ∙ none-and k (value a) (value-below a (suc k) la)
-unit-right k a b s d c la lb true false false false h = sums k _ a b s d la lb h refl refl refl (table-value _ _ refl a-digits a b (lb ∙ sym la))
-unit-right k a b s d c la lb false true false false h = sums k _ a b s d la lb h refl refl (xor-false c) (table-value _ _ refl b-digits a b (lb ∙ sym la))
-unit-right k a b s d c la lb true true false false h = sums k _ a b s d la lb h refl refl refl (table-value _ _ refl b-digits a b (lb ∙ sym la))
-unit-right k a b s d c la lb false false true false h = differences k _ a b s d la lb h false refl refl refl (table-value _ _ refl none-digits a b (lb ∙ sym la))
-unit-right k a b s d c la lb true false true false h = differences k _ a b s d la lb h true refl refl refl (table-value _ _ refl a-digits a b (lb ∙ sym la))
-unit-right k a b s d c la lb false true true false h = differences k _ a b s d la lb h c refl refl (xor-true c) (table-value _ _ refl b-digits a b (lb ∙ sym la))
-unit-right k a b s d c la lb true true true false h = differences k _ a b s d la lb h false refl refl refl (table-value _ _ refl b-digits a b (lb ∙ sym la))
-unit-right k a b s d c la lb false false false true h = halves k _ a b s d la lb h refl refl refl refl (pick-first c (getD a k false))
-unit-right k a b s d c la lb true false false true h = halves k _ a b s d la lb h refl refl refl refl (pick-second c (getD a k false) ∙ value-top k a la)
-unit-right k a b s d c la lb false true false true h = halves k _ a b s d la lb h refl refl refl refl refl
-unit-right k a b s d c la lb true true false true h = plain k _ a b s d la lb h refl refl refl (table-value _ _ refl xor-digits a b (lb ∙ sym la))
-unit-right k a b s d c la lb false false true true h = plain k _ a b s d la lb h refl refl refl (table-value _ _ refl or-digits a b (lb ∙ sym la))
-unit-right k a b s d c la lb true false true true h = plain k _ a b s d la lb h refl refl refl (table-value _ _ refl and-digits a b (lb ∙ sym la))
-unit-right k a b s d c la lb false true true true h = plain k _ a b s d la lb h refl refl refl (complemented k _ a b s d la lb h refl refl refl refl refl)
-unit-right k a b s d c la lb true true true true h = plain k _ a b s d la lb h refl refl refl (table-value _ _ refl a-digits a b (lb ∙ sym la))
+pub unit-at-every-width : UnitAtEveryWidth
+unfolding aluAt answers xor
+unit-at-every-width k a b s d c la lb false false false false h = sums k _ a b s d la lb h refl refl refl (table-value _ _ refl none-digits a b (lb ∙ sym la)) ∙ none-and k (value a) (value-below a (suc k) la)
+unit-at-every-width k a b s d c la lb true false false false h = sums k _ a b s d la lb h refl refl refl (table-value _ _ refl a-digits a b (lb ∙ sym la))
+unit-at-every-width k a b s d c la lb false true false false h = sums k _ a b s d la lb h refl refl (xor-false c) (table-value _ _ refl b-digits a b (lb ∙ sym la))
+unit-at-every-width k a b s d c la lb true true false false h = sums k _ a b s d la lb h refl refl refl (table-value _ _ refl b-digits a b (lb ∙ sym la))
+unit-at-every-width k a b s d c la lb false false true false h = differences k _ a b s d la lb h false refl refl refl (table-value _ _ refl none-digits a b (lb ∙ sym la))
+unit-at-every-width k a b s d c la lb true false true false h = differences k _ a b s d la lb h true refl refl refl (table-value _ _ refl a-digits a b (lb ∙ sym la))
+unit-at-every-width k a b s d c la lb false true true false h = differences k _ a b s d la lb h c refl refl (xor-true c) (table-value _ _ refl b-digits a b (lb ∙ sym la))
+unit-at-every-width k a b s d c la lb true true true false h = differences k _ a b s d la lb h false refl refl refl (table-value _ _ refl b-digits a b (lb ∙ sym la))
+unit-at-every-width k a b s d c la lb false false false true h = halves k _ a b s d la lb h refl refl refl refl (pick-first c (getD a k false))
+unit-at-every-width k a b s d c la lb true false false true h = halves k _ a b s d la lb h refl refl refl refl (pick-second c (getD a k false) ∙ value-top k a la)
+unit-at-every-width k a b s d c la lb false true false true h = halves k _ a b s d la lb h refl refl refl refl refl
+unit-at-every-width k a b s d c la lb true true false true h = plain k _ a b s d la lb h refl refl refl (table-value _ _ refl xor-digits a b (lb ∙ sym la))
+unit-at-every-width k a b s d c la lb false false true true h = plain k _ a b s d la lb h refl refl refl (table-value _ _ refl or-digits a b (lb ∙ sym la))
+unit-at-every-width k a b s d c la lb true false true true h = plain k _ a b s d la lb h refl refl refl (table-value _ _ refl and-digits a b (lb ∙ sym la))
+unit-at-every-width k a b s d c la lb false true true true h = plain k _ a b s d la lb h refl refl refl (complemented k _ a b s d la lb h refl refl refl refl refl)
+unit-at-every-width k a b s d c la lb true true true true h = plain k _ a b s d la lb h refl refl refl (table-value _ _ refl a-digits a b (lb ∙ sym la))
 
-pub ripple-right : RippleUnit
-ripple-right k a b c la lb o0 o1 o2 o3 =
-    unit-right k a b _ _ c la lb o0 o1 o2 o3 (ripple-adds _ _ _ (second-length _ a ∙ sym (first-length _ a b (lb ∙ sym la))))
+pub ripple-unit : RippleUnit
+ripple-unit k a b c la lb o0 o1 o2 o3 =
+    unit-at-every-width k a b _ _ c la lb o0 o1 o2 o3 (ripple-adds _ _ _ (second-length _ a ∙ sym (first-length _ a b (lb ∙ sym la))))
 
 -- ---- words in, a word out
-
--- the four lines of a number are its low bits
-lines : (n : ℕ) → codeOf (eqb (n % 2) 1) (eqb (n / 2 % 2) 1) (eqb (n / 4 % 2) 1) (eqb (n / 8 % 2) 1) ≡ n % 16
-lines n =
-    four n (n / 2) (n / 4) (n / 8) (n / 8 / 2) _ _ _ _ (bit-le (eqb (n % 2) 1)) (bit-le (eqb (n / 2 % 2) 1)) (bit-le (eqb (n / 4 % 2) 1)) (bit-le (eqb (n / 8 % 2) 1))
-    (back n) (back (n / 2) ∙ ap (λ (x : ℕ). x * 2 + asNumber (eqb (n / 2 % 2) 1)) (div-div-eq-div-mul n 2 2))
-    (back (n / 4) ∙ ap (λ (x : ℕ). x * 2 + asNumber (eqb (n / 4 % 2) 1)) (div-div-eq-div-mul n 4 2)) (back (n / 8))
-  where
-    four : (n h1 h2 h3 q r0 r1 r2 r3 : ℕ) → r0 ≤ 1 → r1 ≤ 1 → r2 ≤ 1 → r3 ≤ 1 → n ≡ h1 * 2 + r0 → h1 ≡ h2 * 2 + r1 → h2 ≡ h3 * 2 + r2 → h3 ≡ q * 2 + r3
-        → r0 + 2 * r1 + 4 * r2 + 8 * r3 ≡ n % 16
-    four n h1 h2 h3 q r0 r1 r2 r3 b0 b1 b2 b3 e0 e1 e2 e3 = omega arith
-
-    back : (x : ℕ) → x ≡ x / 2 * 2 + asNumber (eqb (x % 2) 1)
-    back x = sym (div-add-mod' x 2) ∙ ap (λ (r : ℕ). x / 2 * 2 + r) (sym (bit-digit (x % 2) (omega arith)))
 
 -- the control lines by the operation's number
 abbrev steered : ℕ → Bool → Bool → Lines
@@ -128,8 +111,8 @@ unfolding aluOf
 gate-by n a b r c sign low d l p q s ha hb hsign hl (hp, hq) (hd, hs) hr hlow =
     out-eq hr (ap (λ (u : Bool). carryOut l u d) hlow) (λ i. overflowOf (getD (hp i) 31 false) (getD (hq i) 31 false) (getD s 31 false))
     ∙ (λ i. outOf 31 (el i) x y (sum i) (out i))
-    ∙ ripple-right 31 x y c (length-bits 32 a) (length-bits 32 b) (eqb (n % 2) 1) (eqb (n / 2 % 2) 1) (eqb (n / 4 % 2) 1) (eqb (n / 8 % 2) 1)
-    ∙ (λ i. aluAt 31 (lines n i) (value-bits 32 a ha i) (value-bits 32 b hb i) c)
+    ∙ ripple-unit 31 x y c (length-bits 32 a) (length-bits 32 b) (eqb (n % 2) 1) (eqb (n / 2 % 2) 1) (eqb (n / 4 % 2) 1) (eqb (n / 8 % 2) 1)
+    ∙ (λ i. aluAt 31 (low-nibble n i) (value-bits 32 a ha i) (value-bits 32 b hb i) c)
   where
     x : List Bool
     x = bitsOf 32 a

@@ -1,23 +1,23 @@
 -- What the adder's two rows are worth, by the control lines.
 use Prim.Native.Nat.{ℕ, suc, _+_, _*_, _/_, _%_, _^_, min, max}
 use mathlib.Core.Path.{_≡_, refl, sym, ap, ap₂, _∙_}
-use mathlib.Core.Bool.{Bool, true, false, _&&_}
+use mathlib.Core.Bool.{Bool, true, false, _&&_, xor}
 use mathlib.Core.List.{List, [], _∷_, _++_}
 use native.Mathlib.Omega.{arith}
 use native.Mathlib.Nat.{suc-inj, pow-suc}
 use lib.ListN.{length, getD}
 use lib.Bits.{bitAnd, bitOr, bitXor, differ, and-step, or-step, xor-step}
-use Rattle.arithmetic.specs.Words.{asNumber, _⊕_}
-use Rattle.arithmetic.proofs.Sums.{bit-le}
+use Rattle.arithmetic.specs.Words.{asNumber}
+use Rattle.arithmetic.proofs.Bits.{one, two, bit-le}
 use Rattle.arithmetic.proofs.Integers.{weight}
 use Rattle.gates.specs.declared.control.Lines.{Lines}
-use Rattle.gates.specs.Gates.{value, pick, entry, firstRow, secondRow}
-use Rattle.gates.proofs.Worth.{one, two, value-snoc}
+use Rattle.gates.specs.Gates.{value, select, entry, firstRow, secondRow}
+use Rattle.gates.proofs.Worth.{value-snoc}
 
-pub pick-first : (p q : Bool) → pick false p q ≡ p
+pub pick-first : (p q : Bool) → select false p q ≡ p
 pick-first = two _ refl refl refl refl
 
-pub pick-second : (p q : Bool) → pick true p q ≡ q
+pub pick-second : (p q : Bool) → select true p q ≡ q
 pick-second = two _ refl refl refl refl
 
 -- ---- the first row as a table's entries
@@ -40,7 +40,7 @@ table-value l op s d [] [] e = sym (d .none)
 table-value l op s d [] (y ∷ b) e = absurd (let h : suc (length b) ≡ 0 = e in omega arith)
 table-value l op s d (x ∷ a) [] e = absurd (let h : 0 ≡ suc (length a) = e in omega arith)
 table-value l op s d (x ∷ a) (y ∷ b) e =
-    ap₂ (λ (t : Bool) (n : ℕ). asNumber (pick t (entry (l .t00) (l .t01) (l .t10) (l .t11) x y) (getD a 0 (l .top))) + 2 * n) s (table-value l op s d a b (suc-inj e))
+    ap₂ (λ (t : Bool) (n : ℕ). asNumber (select t (entry (l .t00) (l .t01) (l .t10) (l .t11) x y) (getD a 0 (l .top))) + 2 * n) s (table-value l op s d a b (suc-inj e))
     ∙ ap (λ (t : Bool). asNumber t + 2 * op (value a) (value b)) (pick-first (entry (l .t00) (l .t01) (l .t10) (l .t11) x y) (getD a 0 (l .top)))
     ∙ sym (d .more x y (value a) (value b))
 
@@ -92,11 +92,11 @@ shift-row : (l : Lines) (x : Bool) (a b : List Bool) → l .shift ≡ true → l
 unfolding firstRow
 shift-row l x a [] s e = absurd (let h : 0 ≡ suc (length a) = e in omega arith)
 shift-row l x [] (y ∷ []) s e =
-    ap (λ (t : Bool). pick t (entry (l .t00) (l .t01) (l .t10) (l .t11) x y) (l .top) ∷ []) s
+    ap (λ (t : Bool). select t (entry (l .t00) (l .t01) (l .t10) (l .t11) x y) (l .top) ∷ []) s
     ∙ ap (λ (t : Bool). t ∷ []) (pick-second (entry (l .t00) (l .t01) (l .t10) (l .t11) x y) (l .top))
 shift-row l x [] (y ∷ z ∷ b) s e = absurd (let h : suc (suc (length b)) ≡ 1 = e in omega arith)
 shift-row l x (w ∷ a) (y ∷ b) s e =
-    ap (λ (t : Bool). pick t (entry (l .t00) (l .t01) (l .t10) (l .t11) x y) w ∷ firstRow l (w ∷ a) b) s
+    ap (λ (t : Bool). select t (entry (l .t00) (l .t01) (l .t10) (l .t11) x y) w ∷ firstRow l (w ∷ a) b) s
     ∙ ap₂ (λ (t : Bool) (m : List Bool). t ∷ m) (pick-second (entry (l .t00) (l .t01) (l .t10) (l .t11) x y) w) (shift-row l w a b s (suc-inj e))
 
 pub shift-value : (k : ℕ) (l : Lines) (a b : List Bool) → l .shift ≡ true → length a ≡ suc k → length b ≡ suc k → value (firstRow l a b) ≡ value a / 2 + asNumber (l .top) * 2 ^ k
@@ -115,10 +115,12 @@ second-length l (x ∷ a) = ap suc (second-length l a)
 
 -- what the second row adds or takes away is a's weight: a or nothing
 
-bit-taken : (s x : Bool) → asNumber ((x && s) ⊕ false) ≡ weight s (asNumber x)
+bit-taken : (s x : Bool) → asNumber (xor (x && s) false) ≡ weight s (asNumber x)
+unfolding xor
 bit-taken = two _ refl refl refl refl
 
-bit-turned : (s x : Bool) → asNumber ((x && s) ⊕ true) + weight s (asNumber x) ≡ 1
+bit-turned : (s x : Bool) → asNumber (xor (x && s) true) + weight s (asNumber x) ≡ 1
+unfolding xor
 bit-turned = two _ refl refl refl refl
 
 taken-more : (s : Bool) (x a : ℕ) → weight s (x + 2 * a) ≡ weight s x + 2 * weight s a
@@ -129,7 +131,7 @@ pub second-value : (l : Lines) → l .turn ≡ false → (a : List Bool) → val
 unfolding value secondRow
 second-value l t [] = one (λ s. 0 ≡ weight s 0) refl refl (l .second)
 second-value l t (x ∷ a) =
-    ap (λ (u : Bool). asNumber ((x && l .second) ⊕ u) + 2 * value (secondRow l a)) t
+    ap (λ (u : Bool). asNumber (xor (x && l .second) u) + 2 * value (secondRow l a)) t
     ∙ ap₂ (λ (m n : ℕ). m + 2 * n) (bit-taken (l .second) x) (second-value l t a)
     ∙ sym (taken-more (l .second) (asNumber x) (value a))
 
@@ -138,7 +140,7 @@ pub second-turned : (l : Lines) → l .turn ≡ true → (a : List Bool) → val
 unfolding value secondRow
 second-turned l t [] = one (λ s. 0 + weight s 0 + 1 ≡ 1) refl refl (l .second)
 second-turned l t (x ∷ a) =
-    ap (λ (u : Bool). asNumber ((x && l .second) ⊕ u) + 2 * value (secondRow l a) + weight (l .second) (asNumber x + 2 * value a) + 1) t
+    ap (λ (u : Bool). asNumber (xor (x && l .second) u) + 2 * value (secondRow l a) + weight (l .second) (asNumber x + 2 * value a) + 1) t
     ∙ omega (arith, bit-turned (l .second) x, second-turned l t a, taken-more (l .second) (asNumber x) (value a), pow-suc 2 (length a))
 
 -- ---- the complement of a in the first row
@@ -150,6 +152,6 @@ not-value l s e00 e01 e10 e11 [] [] e = refl
 not-value l s e00 e01 e10 e11 [] (y ∷ b) e = absurd (let h : suc (length b) ≡ 0 = e in omega arith)
 not-value l s e00 e01 e10 e11 (x ∷ a) [] e = absurd (let h : 0 ≡ suc (length a) = e in omega arith)
 not-value l s e00 e01 e10 e11 (x ∷ a) (y ∷ b) e =
-    (λ i. asNumber (pick (s i) (entry (e00 i) (e01 i) (e10 i) (e11 i) x y) (getD a 0 (l .top))) + 2 * value (firstRow l a b) + (asNumber x + 2 * value a) + 1)
+    (λ i. asNumber (select (s i) (entry (e00 i) (e01 i) (e10 i) (e11 i) x y) (getD a 0 (l .top))) + 2 * value (firstRow l a b) + (asNumber x + 2 * value a) + 1)
     ∙ ap (λ (t : Bool). asNumber t + 2 * value (firstRow l a b) + (asNumber x + 2 * value a) + 1) (pick-first (entry true true false false x y) (getD a 0 (l .top)))
     ∙ omega (arith, two (λ x y. asNumber (entry true true false false x y) + asNumber x ≡ 1) refl refl refl refl x y, not-value l s e00 e01 e10 e11 a b (suc-inj e), pow-suc 2 (length a))

@@ -1,4 +1,5 @@
--- Loops that fill a row of bits from the front, one store a turn. The invariant is `take i out ++ rest ≡ whole`, where rest is what is still to come.
+-- Loops that fill a row of bits from the front, one store a turn. The invariant is `take i out ++ rest ≡ whole`, where rest is what is
+-- still to come.
 use Prim.Native.Nat.{ℕ, zero, suc, _+_, _/_, _%_, _^_, _≤_, _<_}
 use mathlib.Core.Path.{_≡_, refl, sym, ap, _∙_}
 use mathlib.Core.Bool.{Bool, false}

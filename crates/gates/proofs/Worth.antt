@@ -1,7 +1,7 @@
 -- What rows of bits are worth, at every width: each law by one induction over the row.
 use Prim.Native.Nat.{ℕ, zero, suc, _+_, _-_, _*_, _/_, _%_, _^_, _≤_, _<_}
 use mathlib.Core.Path.{_≡_, refl, sym, ap, _∙_, subst}
-use mathlib.Core.Bool.{Bool, true, false, not}
+use mathlib.Core.Bool.{Bool, true, false, xor}
 use mathlib.Core.List.{List, [], _∷_, _++_}
 use native.Mathlib.Omega.{arith}
 use native.Mathlib.Nat.{suc-inj, pow-suc, mul-comm, mul-assoc, le-of-eq, le-trans, sub-le, lt-of-lt-of-le}
@@ -9,31 +9,11 @@ use lib.ListN.{length, drop, getD, length-drop, drop-of-length-le}
 use lib.Seq.{drop-cons}
 use lib.Pow.{pow-mono}
 use lib.Dec.{eqb}
-use Rattle.arithmetic.specs.Words.{asNumber, topOf, _⊕_}
+use Rattle.arithmetic.specs.Words.{asNumber, topOf}
+use Rattle.arithmetic.proofs.Bits.{three, bit-le, bit-digit}
 use Rattle.arithmetic.proofs.Integers.{same-leb}
-use Rattle.arithmetic.proofs.Sums.{bit-le, bit-digit}
 use Rattle.gates.specs.Gates.{value, bitsOf, fullSum, fullCarry, rippleSum, rippleCarry}
 use Rattle.gates.specs.Theorems.{RippleAdds}
-
--- what is shown of both bits, of two, of three
-pub one : (P : Bool → Type 0) → P true → P false → (x : Bool) → P x
-one P p q true = p
-one P p q false = q
-
-pub two : (P : Bool → Bool → Type 0) → P true true → P true false → P false true → P false false → (x y : Bool) → P x y
-two P p q r s true = one (P true) p q
-two P p q r s false = one (P false) r s
-
-pub three : (P : Bool → Bool → Bool → Type 0) → P true true true → P true true false → P true false true → P true false false
-    → P false true true → P false true false → P false false true → P false false false → (x y z : Bool) → P x y z
-three P p q r s t u v w true = two (P true) p q r s
-three P p q r s t u v w false = two (P false) t u v w
-
-pub xor-false : (t : Bool) → (t ⊕ false) ≡ t
-xor-false = one _ refl refl
-
-pub xor-true : (t : Bool) → (t ⊕ true) ≡ not t
-xor-true = one _ refl refl
 
 -- one more place doubles what a bit is worth
 double : (b n : ℕ) → b * 2 ^ suc n ≡ 2 * (b * 2 ^ n)
@@ -42,6 +22,7 @@ double b n = ap (λ (x : ℕ). b * x) (pow-suc 2 n) ∙ sym (mul-assoc b (2 ^ n)
 -- ---- the ripple adder, for all widths together
 
 full-value : (a b c : Bool) → asNumber (fullSum a b c) + 2 * asNumber (fullCarry a b c) ≡ asNumber a + asNumber b + asNumber c
+unfolding xor
 full-value = three _ refl refl refl refl refl refl refl refl
 
 pub ripple-adds : RippleAdds

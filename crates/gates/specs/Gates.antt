@@ -1,11 +1,11 @@
 -- The arithmetic unit in gates of one and two inputs on single bits, with the ripple adder. Document 01, "Clocks", its last paragraph.
--- Rows of bits stand lowest bit first and may have any width. The gates are `not`, `_&&_`, `_||_` and `_⊕_`.
+-- Rows of bits stand lowest bit first and may have any width. The gates are `not`, `_&&_`, `_||_` and `xor`.
 use Prim.Native.Nat.{ℕ, zero, suc, _+_, _*_, _/_, _%_}
-use mathlib.Core.Bool.{Bool, not, _&&_, _||_}
+use mathlib.Core.Bool.{Bool, not, _&&_, _||_, xor}
 use mathlib.Core.List.{List, [], _∷_}
 use lib.ListN.{getD}
 use lib.Dec.{eqb}
-use Rattle.arithmetic.specs.Words.{asNumber, _⊕_}
+use Rattle.arithmetic.specs.Words.{asNumber}
 use Rattle.gates.specs.declared.control.Lines.{Lines}
 
 -- ---- rows of bits and numbers
@@ -24,10 +24,10 @@ bitsOf (suc n) x = eqb (x % 2) 1 ∷ bitsOf n (x / 2)
 
 -- the full adder
 abbrev pub fullSum : Bool → Bool → Bool → Bool
-fullSum a b c = (a ⊕ b) ⊕ c
+fullSum a b c = xor (xor a b) c
 
 abbrev pub fullCarry : Bool → Bool → Bool → Bool
-fullCarry a b c = (a && b) || ((a ⊕ b) && c)
+fullCarry a b c = (a && b) || (xor a b && c)
 
 -- full adders in a row, the carry rippling up
 unfoldable pub rippleSum : List Bool → List Bool → Bool → List Bool
@@ -43,20 +43,20 @@ rippleCarry (a ∷ l) (b ∷ m) c = rippleCarry l m (fullCarry a b c)
 -- ---- what the adder is given
 
 -- a selector: q where s is 1, else p
-abbrev pub pick : Bool → Bool → Bool → Bool
-pick s p q = (p && not s) || (q && s)
+abbrev pub select : Bool → Bool → Bool → Bool
+select s p q = (p && not s) || (q && s)
 
 -- a generator: the entry of a table of four for the inputs a and b
 abbrev pub entry : Bool → Bool → Bool → Bool → Bool → Bool → Bool
-entry t00 t01 t10 t11 a b = pick a (pick b t00 t01) (pick b t10 t11)
+entry t00 t01 t10 t11 a b = select a (select b t00 t01) (select b t10 t11)
 
 -- one place of the adder's first row: the table's entry for the bits of a and b, or in a shift the bit of a one place up
 abbrev pub firstBit : Lines → Bool → Bool → Bool → Bool
-firstBit l a b above = pick (l .shift) (entry (l .t00) (l .t01) (l .t10) (l .t11) a b) above
+firstBit l a b above = select (l .shift) (entry (l .t00) (l .t01) (l .t10) (l .t11) a b) above
 
 -- one place of its second row: the bit of a or nothing, complemented for a difference
 abbrev pub secondBit : Lines → Bool → Bool
-secondBit l a = (a && l .second) ⊕ l .turn
+secondBit l a = xor (a && l .second) (l .turn)
 
 -- the rows; above the top place stands the bit that a shift takes in
 unfoldable pub firstRow : Lines → List Bool → List Bool → List Bool
@@ -87,22 +87,18 @@ abbrev pub linesOf : Bool → Bool → Bool → Bool → Bool → Bool → Lines
 linesOf o0 o1 o2 o3 c sign =
     record {
       t00 = o3 && (o2 && (o1 && not o0));
-      t01 = pick o3 o1 (not o2 || not o0);
-      t10 = pick o3 (stepLine o0 o1) (not (o0 ⊕ o1));
-      t11 = pick o3 (o0 || o1) (o2 && (not o1 || o0));
+      t01 = select o3 o1 (not o2 || not o0);
+      t10 = select o3 (stepLine o0 o1) (not (xor o0 o1));
+      t11 = select o3 (o0 || o1) (o2 && (not o1 || o0));
       shift = o3 && (not o2 && not (o1 && o0));
-      top = not o1 && pick o0 c sign;
+      top = not o1 && select o0 c sign;
       second = not o3 && not (stepLine o0 o1);
       turn = not o3 && o2;
-      carry = not o3 && ((stepLine o0 o1 || ((o1 && not o0) && c)) ⊕ o2);
+      carry = not o3 && xor (stepLine o0 o1 || ((o1 && not o0) && c)) o2;
     }
-
--- the operation's number from its four lines
-abbrev pub codeOf : Bool → Bool → Bool → Bool → ℕ
-codeOf o0 o1 o2 o3 = asNumber o0 + 2 * asNumber o1 + 4 * asNumber o2 + 8 * asNumber o3
 
 -- ---- the flags
 
 -- carry out, or borrow: a difference is below zero where its sum with the complement does not carry; in a shift a's lowest bit
 abbrev pub carryOut : Lines → Bool → Bool → Bool
-carryOut l low c = (l .shift && low) || (c ⊕ l .turn)
+carryOut l low c = (l .shift && low) || xor c (l .turn)

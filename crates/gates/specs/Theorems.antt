@@ -6,10 +6,10 @@ use mathlib.Core.Bool.{Bool, false}
 use mathlib.Core.List.{List}
 use lib.ListN.{length, getD}
 use Rattle.arithmetic.specs.declared.AluOut.{AluOut}
-use Rattle.arithmetic.specs.Words.{asNumber, overflowOf}
+use Rattle.arithmetic.specs.Words.{asNumber, nibble, overflowOf}
 use Rattle.arithmetic.specs.Alu.{aluAt}
 use Rattle.gates.specs.declared.control.Lines.{Lines}
-use Rattle.gates.specs.Gates.{value, rippleSum, rippleCarry, firstRow, secondRow, linesOf, codeOf, carryOut}
+use Rattle.gates.specs.Gates.{value, rippleSum, rippleCarry, firstRow, secondRow, linesOf, carryOut}
 
 -- ---- the adder ("a ripple adder shown right for all widths together")
 
@@ -33,13 +33,14 @@ outOf k l a b s d =
       overflow = overflowOf (getD (firstRow l a b) k false) (getD (secondRow l a) k false) (getD s k false);
     }
 
--- for each operation it answers as the definition does, at every width of k + 1 bits and around any adder that adds
+-- for each operation, given by its four lines, it answers as the definition does, at every width of k + 1 bits and around any adder that
+-- adds
 abbrev pub UnitAtEveryWidth : Type 0
 UnitAtEveryWidth =
     (k : ℕ) (a b s : List Bool) (d c : Bool) → length a ≡ suc k → length b ≡ suc k → (o0 o1 o2 o3 : Bool)
     → let l = linesOf o0 o1 o2 o3 c (getD a k false) in
     Adds (firstRow l a b) (secondRow l a) (l .carry) s d
-    → outOf k l a b s d ≡ aluAt k (codeOf o0 o1 o2 o3) (value a) (value b) c
+    → outOf k l a b s d ≡ aluAt k (nibble o3 o2 o1 o0) (value a) (value b) c
 
 -- so it does around the ripple adder
 abbrev pub RippleUnit : Type 0
@@ -47,4 +48,4 @@ RippleUnit =
     (k : ℕ) (a b : List Bool) (c : Bool) → length a ≡ suc k → length b ≡ suc k → (o0 o1 o2 o3 : Bool)
     → let l = linesOf o0 o1 o2 o3 c (getD a k false) in
     outOf k l a b (rippleSum (firstRow l a b) (secondRow l a) (l .carry)) (rippleCarry (firstRow l a b) (secondRow l a) (l .carry))
-    ≡ aluAt k (codeOf o0 o1 o2 o3) (value a) (value b) c
+    ≡ aluAt k (nibble o3 o2 o1 o0) (value a) (value b) c

@@ -1,6 +1,6 @@
 // The unit's control lines, made by gates from the operation's four lines.
 ghost use mathlib.Core.Path.{_≡_};
-ghost use Rattle.gates.specs.Gates.{pick, linesOf};
+ghost use Rattle.gates.specs.Gates.{select, linesOf};
 
 // What steers the rows and the flags.
 pub struct Lines {
@@ -22,7 +22,7 @@ pub struct Lines {
 
 // A selector: q where s is 1, else p.
 pub fn selector(s: bool, p: bool, q: bool) -> bool
-    ensures { λ r. ⌜ r ≡ pick s p q ⌝ }
+    ensures { λ r. ⌜ r ≡ select s p q ⌝ }
 {
     (p & !s) | (q & s)
 }

@@ -1,1 +1,1 @@
-mod CallLaws
+mod Answers

@@ -6,6 +6,8 @@ use host_ends::end_gate_run;
 use host_ends::end_read;
 use host_ends::end_run;
 use host_ends::end_write;
+use host_reading::IMAGE_PLACES;
+use host_reading::RUN_PLACES;
 use host_reading::machine_lent;
 use host_reading::state_lent;
 ghost use Rattle.host.specs.Calls.{RunCall, FileCall, GateCall, ReadCall, WriteCall};
@@ -21,7 +23,7 @@ pub extern "C" fn fm8502_run(
 ) -> u32
     ensures { λ r. ⌜ RunCall (now (memory .entry)) (now (waits .entry)) (now (machine .entry)) count (now (result .entry)) (now (memory .exit)) (now (machine .exit)) (now (result .exit)) r ⌝ }
 {
-    let lent = machine_lent(&machine[..], result.len(), 2);
+    let lent = machine_lent(&machine[..], result.len(), RUN_PLACES);
     if !lent.fits {
         return MISFIT;
     }
@@ -40,7 +42,7 @@ pub extern "C" fn fm8502_file_run(
 ) -> u32
     ensures { λ r. ⌜ FileCall (now (memory .entry)) (now (journal .entry)) (now (machine .entry)) count (now (result .entry)) (now (memory .exit)) (now (journal .exit)) (now (machine .exit)) (now (result .exit)) r ⌝ }
 {
-    let lent = machine_lent(&machine[..], result.len(), 2);
+    let lent = machine_lent(&machine[..], result.len(), RUN_PLACES);
     if !lent.fits {
         return MISFIT;
     }
@@ -90,7 +92,7 @@ pub extern "C" fn fm8502_image_read(
 ) -> u32
     ensures { λ r. ⌜ ReadCall (now (bytes .entry)) (now (memory .entry)) (now (machine .entry)) (now (result .entry)) (now (memory .exit)) (now (machine .exit)) (now (result .exit)) r ⌝ }
 {
-    let lent = machine_lent(&machine[..], result.len(), 1);
+    let lent = machine_lent(&machine[..], result.len(), IMAGE_PLACES);
     if !lent.fits {
         return MISFIT;
     }
@@ -108,7 +110,7 @@ pub extern "C" fn fm8502_image_write(
 ) -> u32
     ensures { λ r. ⌜ WriteCall (now (memory .entry)) (now (machine .entry)) (now (out .entry)) (now (result .entry)) (now (out .exit)) (now (result .exit)) r ⌝ }
 {
-    let lent = machine_lent(machine, result.len(), 1);
+    let lent = machine_lent(machine, result.len(), IMAGE_PLACES);
     if !lent.fits {
         return MISFIT;
     }

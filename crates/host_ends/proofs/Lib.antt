@@ -1,3 +1,3 @@
-mod PlaceLaws
-mod CodeLaws
-pub mod FitEnds
+mod Numbers
+mod Ends
+pub mod Fitting

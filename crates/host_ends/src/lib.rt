@@ -5,35 +5,33 @@ mod places;
 use codes::DONE;
 pub use codes::MISFIT;
 use codes::STOPPED;
-use codes::file_code;
-use codes::run_code;
 use gate_machine::GateAnswer;
 use gate_machine::GateResult;
 use host_words::put_machine;
 use host_words::put_state;
 use image::ReadAnswer;
 use image::ReadResult;
-use image::WriteResult;
+use image::WriteAnswer;
+use interpreter::FileAnswer;
 use interpreter::FileResult;
+use interpreter::RunAnswer;
 use interpreter::RunResult;
 use model::Machine;
 use places::put_one;
 use places::put_two;
 use refusals::refusal_number;
+ghost use mathlib.Core.Path.{_≡_};
 ghost use mathlib.Core.List.{[], _∷_};
-ghost use Rattle.host_reading.specs.Layout.{machineSize};
+ghost use Rattle.host_reading.specs.Layout.{runPlaces, machineSize};
 ghost use Rattle.host_words.specs.Words.{machineWords, laid};
-ghost use Rattle.host_ends.specs.Codes.{RunEnds, FileEnds, GateEnds, ReadEnds, WriteEnds, EndsBy};
+ghost use Rattle.host_ends.specs.Codes.{RunEnds, FileEnds, GateEnds, ReadEnds, WriteEnds};
 
 // A machine, and the instructions that ran with a run's other number.
-fn end_machine(code: u32, m: Machine, ran: u32, other: u64, machine: &mut [u32], result: &mut [u64])
-    ensures { λ _. ⌜ EndsBy code (laid machineSize (machineWords m) (now (machine .entry))) (laid 2 (ran ∷ other ∷ []) (now (result .entry))) (now (machine .entry)) (now (result .entry)) (now (machine .exit)) (now (result .exit)) ⌝ }
+fn put_run(m: Machine, ran: u32, other: u64, machine: &mut [u32], result: &mut [u64])
+    ensures { λ _. ⌜ (now (machine .exit) ≡ laid machineSize (machineWords m) (now (machine .entry))) × (now (result .exit) ≡ laid runPlaces (ran ∷ other ∷ []) (now (result .entry))) ⌝ }
 {
-    let carried = (code == DONE) | (code == STOPPED);
-    if carried {
-        put_machine(m, &mut *machine);
-        put_two(ran as u64, other, &mut *result);
-    }
+    put_machine(m, &mut *machine);
+    put_two(ran as u64, other, &mut *result);
 }
 
 pub fn end_run(r: RunResult, machine: &mut [u32], result: &mut [u64]) -> u32
@@ -41,9 +39,17 @@ pub fn end_run(r: RunResult, machine: &mut [u32], result: &mut [u64]) -> u32
 {
     let answer = r.answer;
     let after = r.machine;
-    let code = run_code(answer);
-    end_machine(code, after, r.ran, r.clocks, &mut *machine, &mut *result);
-    code
+    match answer {
+        RunAnswer::Refused(why) => refusal_number(why),
+        RunAnswer::Finished => {
+            put_run(after, r.ran, r.clocks, &mut *machine, &mut *result);
+            DONE
+        }
+        RunAnswer::Outside => {
+            put_run(after, r.ran, r.clocks, &mut *machine, &mut *result);
+            STOPPED
+        }
+    }
 }
 
 pub fn end_file_run(r: FileResult, machine: &mut [u32], result: &mut [u64]) -> u32
@@ -51,16 +57,18 @@ pub fn end_file_run(r: FileResult, machine: &mut [u32], result: &mut [u64]) -> u
 {
     let answer = r.answer;
     let after = r.machine;
-    let code = file_code(answer);
-    end_machine(
-        code,
-        after,
-        r.ran,
-        r.pairs as u64,
-        &mut *machine,
-        &mut *result,
-    );
-    code
+    let pairs = r.pairs as u64;
+    match answer {
+        FileAnswer::Refused(why) => refusal_number(why),
+        FileAnswer::Finished => {
+            put_run(after, r.ran, pairs, &mut *machine, &mut *result);
+            DONE
+        }
+        FileAnswer::Undone => {
+            put_run(after, r.ran, pairs, &mut *machine, &mut *result);
+            STOPPED
+        }
+    }
 }
 
 pub fn end_gate_run(r: GateResult, state: &mut [u32], result: &mut [u64]) -> u32
@@ -93,12 +101,12 @@ pub fn end_read(r: ReadResult, machine: &mut [u32], result: &mut [u64]) -> u32
     }
 }
 
-pub fn end_write(r: WriteResult, result: &mut [u64]) -> u32
+pub fn end_write(r: WriteAnswer, result: &mut [u64]) -> u32
     ensures { λ code. ⌜ WriteEnds r (now (result .entry)) (now (result .exit)) code ⌝ }
 {
     match r {
-        WriteResult::Refused(why) => refusal_number(why),
-        WriteResult::Written(size) => {
+        WriteAnswer::Refused(why) => refusal_number(why),
+        WriteAnswer::Written(size) => {
             put_one(size as u64, &mut *result);
             DONE
         }

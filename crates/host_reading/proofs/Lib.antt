@@ -1,2 +1,2 @@
-pub mod FitLaws
-pub mod ReadingLaws
+pub mod Lengths
+pub mod Starts

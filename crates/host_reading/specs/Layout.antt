@@ -8,12 +8,24 @@ use Rattle.model.specs.declared.Flags.{Flags}
 use Rattle.model.specs.declared.Machine.{Machine}
 use Rattle.model.specs.declared.GateState.{GateState}
 use Rattle.model.specs.Words.{wordAt}
+use Rattle.model.specs.Interpreter.{machine}
 use Rattle.host_reading.specs.declared.MachineLent.{MachineLent}
 use Rattle.host_reading.specs.declared.StateLent.{StateLent}
 
 -- where a call reads a flag word, any word other than 0 counts as 1
 abbrev pub truth : ℕ → Bool
 truth word = not (eqb word 0)
+
+-- ---- the result's places due: of a run and a file run, of a gate run and one clock, of a read and a write of an image
+
+abbrev pub runPlaces : ℕ
+runPlaces = 2
+
+abbrev pub gatePlaces : ℕ
+gatePlaces = 1
+
+abbrev pub imagePlaces : ℕ
+imagePlaces = 1
 
 -- ---- 12 words: r0 to r7, C, V, N, Z
 
@@ -42,7 +54,7 @@ flagsIn words =
     }
 
 unfoldable pub machineIn : List ℕ → Machine
-machineIn words = record { regs = registersIn words; flags = flagsIn words }
+machineIn words = machine (registersIn words) (flagsIn words)
 
 -- whether so many words are a machine's, and so many result places those due
 unfoldable pub machineFormed : (words places due : ℕ) → Bool
@@ -86,9 +98,9 @@ module _ (words : List ℕ) (machine : Machine) (row left : ℕ) where
 unfoldable pub stateIn : List ℕ → GateState
 stateIn words = stateWith words (machineIn words) (rowIn (wordAt words 12) (wordAt words 20)) (leftIn (wordAt words 20))
 
--- whether so many words are a gate state's, with one result place
+-- whether so many words are a gate state's, and so many result places those due
 unfoldable pub stateFormed : (words places : ℕ) → Bool
-stateFormed words places = eqb words stateSize && eqb places 1
+stateFormed words places = eqb words stateSize && eqb places gatePlaces
 
 -- ---- what a call starts from: the words, or none where what is lent does not fit; a word that is not there counts as 0
 

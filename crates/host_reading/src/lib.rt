@@ -2,8 +2,8 @@
 mod fits;
 mod reading;
 
-use fits::machine_fits;
-use fits::state_fits;
+use fits::machine_formed;
+use fits::state_formed;
 use model::GateState;
 use model::Machine;
 use reading::machine_in;
@@ -11,9 +11,16 @@ use reading::state_in;
 ghost use mathlib.Core.Path.{_≡_};
 ghost use Rattle.host_reading.specs.Layout.{machineLent, stateLent};
 
-pub const MACHINE_WORDS: usize = 12;
+pub const MACHINE_SIZE: usize = 12;
 
-pub const STATE_WORDS: usize = 21;
+pub const STATE_SIZE: usize = 21;
+
+// The result's places due: of a run and a file run, of a gate run and one clock, of a read and a write of an image.
+pub const RUN_PLACES: usize = 2;
+
+pub const GATE_PLACES: usize = 1;
+
+pub const IMAGE_PLACES: usize = 1;
 
 // A machine, and whether what is lent has the layout's lengths; all 0 where it has not.
 pub struct MachineLent {
@@ -29,7 +36,7 @@ pub struct StateLent {
 pub fn machine_lent(words: &[u32], places: usize, due: usize) -> MachineLent
     ensures { λ r. ⌜ r ≡ machineLent (now (words .entry)) places due ⌝ }
 {
-    if machine_fits(words.len(), places, due) {
+    if machine_formed(words.len(), places, due) {
         return MachineLent {
             fits: true,
             machine: machine_in(words),
@@ -37,14 +44,14 @@ pub fn machine_lent(words: &[u32], places: usize, due: usize) -> MachineLent
     }
     MachineLent {
         fits: false,
-        machine: machine_in(&[0; MACHINE_WORDS]),
+        machine: machine_in(&[0; MACHINE_SIZE]),
     }
 }
 
 pub fn state_lent(words: &[u32], places: usize) -> StateLent
     ensures { λ r. ⌜ r ≡ stateLent (now (words .entry)) places ⌝ }
 {
-    if state_fits(words.len(), places) {
+    if state_formed(words.len(), places) {
         return StateLent {
             fits: true,
             state: state_in(words),
@@ -52,6 +59,6 @@ pub fn state_lent(words: &[u32], places: usize) -> StateLent
     }
     StateLent {
         fits: false,
-        state: state_in(&[0; STATE_WORDS]),
+        state: state_in(&[0; STATE_SIZE]),
     }
 }

@@ -1,2 +1,2 @@
-mod LentLaws
-pub mod LaidLaws
+mod Copies
+pub mod Laid

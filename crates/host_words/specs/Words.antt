@@ -1,33 +1,19 @@
 -- The words that a call leaves of a machine and of a gate state. Document 01, "Machine and instruction word" and "Clocks".
 use Prim.Native.Nat.{ℕ}
 use mathlib.Core.Bool.{cond}
-use mathlib.Core.List.{List, [], _∷_, _++_}
+use mathlib.Core.List.{List, _++_}
 use lib.Dec.{eqb}
 use lib.ListN.{length}
-use Rattle.arithmetic.specs.Words.{asNumber}
 use Rattle.model.specs.declared.Machine.{Machine}
 use Rattle.model.specs.declared.GateState.{GateState}
-use Rattle.model.specs.Packed.{flagNumbers}
+use Rattle.model.specs.Packed.{flagNumbers, latchWords}
 use Rattle.model.specs.Agreement.{machineOf}
 use Rattle.host_reading.specs.Layout.{registersIn}
 
 unfoldable pub machineWords : Machine → List ℕ
 machineWords m = registersIn (m .regs) ++ flagNumbers (m .flags)
 
--- the nine words after the machine's
-unfoldable pub latchWords : GateState → List ℕ
-latchWords s =
-    s .row
-    ∷ s .instruction
-    ∷ s .address
-    ∷ s .a
-    ∷ s .b
-    ∷ s .result
-    ∷ s .position
-    ∷ asNumber (s .begun)
-    ∷ s .left
-    ∷ []
-
+-- the machine's words, then the nine of the latches
 abbrev pub stateWords : GateState → List ℕ
 stateWords s = machineWords (machineOf s) ++ latchWords s
 

@@ -1,8 +1,8 @@
 // A machine and a gate state, written to lent words: specs/Words.antt says which.
 mod words;
 
-use host_reading::MACHINE_WORDS;
-use host_reading::STATE_WORDS;
+use host_reading::MACHINE_SIZE;
+use host_reading::STATE_SIZE;
 use model::GateState;
 use model::Machine;
 use words::latch_words;
@@ -26,7 +26,7 @@ fn copy_words(from: &[u32], to: &mut [u32])
 pub fn put_machine(m: Machine, machine: &mut [u32])
     ensures { λ _. ⌜ now (machine .exit) ≡ laid machineSize (machineWords m) (now (machine .entry)) ⌝ }
 {
-    if machine.len() == MACHINE_WORDS {
+    if machine.len() == MACHINE_SIZE {
         copy_words(&machine_words(m), &mut *machine);
     }
 }
@@ -34,13 +34,13 @@ pub fn put_machine(m: Machine, machine: &mut [u32])
 pub fn put_state(s: GateState, state: &mut [u32])
     ensures { λ _. ⌜ now (state .exit) ≡ laid stateSize (stateWords s) (now (state .entry)) ⌝ }
 {
-    if state.len() == STATE_WORDS {
+    if state.len() == STATE_SIZE {
         let regs = s.regs;
         let flags = s.flags;
         copy_words(
             &machine_words(Machine { regs, flags }),
-            &mut state[..MACHINE_WORDS],
+            &mut state[..MACHINE_SIZE],
         );
-        copy_words(&latch_words(s), &mut state[MACHINE_WORDS..]);
+        copy_words(&latch_words(s), &mut state[MACHINE_SIZE..]);
     }
 }

@@ -1,12 +1,13 @@
 // The words of a machine and of a gate state.
-use host_reading::MACHINE_WORDS;
-use host_reading::STATE_WORDS;
+use host_reading::MACHINE_SIZE;
+use host_reading::STATE_SIZE;
 use model::GateState;
 use model::Machine;
 ghost use mathlib.Core.Path.{_≡_};
-ghost use Rattle.host_words.specs.Words.{machineWords, latchWords};
+ghost use Rattle.model.specs.Packed.{latchWords};
+ghost use Rattle.host_words.specs.Words.{machineWords};
 
-pub fn machine_words(m: Machine) -> [u32; MACHINE_WORDS]
+pub fn machine_words(m: Machine) -> [u32; MACHINE_SIZE]
     ensures { λ r. ⌜ r ≡ machineWords m ⌝ }
 {
     let r = m.regs;
@@ -28,7 +29,7 @@ pub fn machine_words(m: Machine) -> [u32; MACHINE_WORDS]
 }
 
 // The words of a gate state after its machine's.
-pub fn latch_words(s: GateState) -> [u32; STATE_WORDS - MACHINE_WORDS]
+pub fn latch_words(s: GateState) -> [u32; STATE_SIZE - MACHINE_SIZE]
     ensures { λ r. ⌜ r ≡ latchWords s ⌝ }
 {
     [

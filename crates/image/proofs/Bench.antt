@@ -7,9 +7,9 @@ use Rattle.image.specs.Format.{fieldsFor, fieldBytes, memoryFields, imag
 use Rattle.image.specs.Reading.{headerVerdict, fieldVerdict, readField, readMemory, readOf}
 use Rattle.image.specs.Bench.{smallest, benchNumbers}
 
-pub sixtyThree : length smallest ≡ 63
+pub sixty-three : length smallest ≡ 63
 unfolding bytesOf wordBytes fieldsFor fieldBytes memoryFields imageOf
-sixtyThree = refl
+sixty-three = refl
 
 pub bench : benchNumbers ≡ 0 ∷ 8 ∷ 15 ∷ []
 unfolding bytesOf number wordBytes wordsIn fieldsFor fieldBytes memoryFields imageOf headerVerdict fieldVerdict readField readMemory readOf

@@ -19,9 +19,9 @@ use Rattle.image.specs.Bytes.{bytesOf, number, wordBytes, wordsIn, Below
 use Rattle.image.specs.Format.{Field, fieldBytes, isVersion, versionField, registersField, flagsField, countField, wordsField, endField, wordsPerField, fieldsFor, memoryFields, imageOf}
 use Rattle.image.specs.Reading.{Outcome, refused, _▷_, headerVerdict, fieldVerdict, readField, readMemory, readOf}
 use Rattle.image.specs.Theorems.{Cut}
-use Rattle.image.proofs.BytesLaws.{no-elements, length-bytes, number-bytes, below-drop, length-word-bytes}
-use Rattle.image.proofs.FieldLaws.{length-field, field-goes}
-use Rattle.image.proofs.MemoryLaws.{fields-enough, length-first-bytes, length-more, first-and-more}
+use Rattle.image.proofs.Bytes.{no-elements, length-bytes, number-bytes, below-drop, length-word-bytes}
+use Rattle.image.proofs.Fields.{length-field, field-goes}
+use Rattle.image.proofs.Memories.{fields-enough, length-first-bytes, length-more, first-and-more}
 use Rattle.image.proofs.Machines.{flags-fit}
 use Rattle.image.proofs.Stages.{endFrom}
 
@@ -82,7 +82,7 @@ end-cut next k h = field-cut endField [] [] next refl (lit< tt) refl k h (λ j p
 
 -- ---- the fields of words
 
-memory-cut : (n words : ℕ) (memory rest : List ℕ) (next : List ℕ → List ℕ → Outcome) → length memory ≡ words → words ≤ 1024 * n → Below (2 ^ 32) memory
+memory-cut : (n words : ℕ) (memory rest : List ℕ) (next : List ℕ → List ℕ → Outcome) → length memory ≡ words → words ≤ wordsPerField * n → Below (2 ^ 32) memory
     → ((j : ℕ) → j < length rest → next memory (take j rest) ≡ refused CutImage)
     → (k : ℕ) → k < length (memoryFields n memory ++ rest) → readMemory n words (take k (memoryFields n memory ++ rest)) next ≡ refused CutImage
 unfolding readMemory memoryFields fieldBytes

@@ -15,23 +15,23 @@ use Rattle.model.specs.Refusals.{demand, _then_, mostWords}
 use Rattle.model.specs.Packed.{flagNumbers}
 use Rattle.model.proofs.Verdicts.{then-assoc, demanded}
 use Rattle.image.specs.Bytes.{bytesOf, number, wordBytes, wordsIn, Below}
-use Rattle.image.specs.Format.{fieldBytes, isVersion, countFits, versionField, registersField, flagsField, countField, endField, fieldsFor, memoryFields, imageOf}
-use Rattle.image.specs.Reading.{Outcome, loaded, _▷_, readOf, machineOf}
+use Rattle.image.specs.Format.{fieldBytes, isVersion, countFormed, versionField, registersField, flagsField, countField, endField, fieldsFor, memoryFields, imageOf}
+use Rattle.image.specs.Reading.{Outcome, loaded, _▷_, readOf, machineFrom}
 use Rattle.image.specs.Theorems.{RoundTrip, OnlyImages, ImageRead, Size}
-use Rattle.image.proofs.BytesLaws.{no-elements, length-bytes, number-bytes, bytes-number, single, length-word-bytes, bytes-of-words}
+use Rattle.image.proofs.Bytes.{no-elements, length-bytes, number-bytes, bytes-number, single, length-word-bytes, bytes-of-words}
 use Rattle.image.proofs.Outcomes.{went-on}
-use Rattle.image.proofs.FieldLaws.{length-field, field-goes, field-taken}
-use Rattle.image.proofs.MemoryLaws.{fields-enough, length-memory, memory-goes, memory-taken}
+use Rattle.image.proofs.Fields.{length-field, field-goes, field-taken}
+use Rattle.image.proofs.Memories.{fields-enough, length-memory, memory-goes, memory-taken}
 use Rattle.image.proofs.Machines.{flags-fit, machine-back, flags-back}
 use Rattle.image.proofs.Stages.{endFrom, memoryFrom, countFrom, flagsFrom, registersFrom, in-stages}
 
 -- ---- what was written is read, and what is refused of it
 
-pub imageRead : ImageRead
+pub image-read : ImageRead
 unfolding readOf imageOf fieldBytes number
-imageRead version machine memory rest room eight registers-below few memory-below =
+image-read version machine memory rest room eight registers-below few memory-below =
     let onVersion : Verdict = demand (isVersion version) WrongVersion in
-    let onCount : Verdict = demand (countFits (length memory)) BadWordCount in
+    let onCount : Verdict = demand (countFormed (length memory)) BadWordCount in
     let onRoom : Verdict = demand (leb (length memory) room) ShortMemory in
     let onRest : Verdict = demand (eqb (length rest) 0) TrailingBytes in
     let lr : length (wordBytes (machine .regs)) ≡ 32 = length-word-bytes (machine .regs) ∙ ap (λ (n : ℕ). 4 * n) eight in
@@ -44,19 +44,19 @@ imageRead version machine memory rest room eight registers-below few memory-belo
     (field-goes registersField (wordBytes (machine .regs)) _ lr (lit< tt) _ _ Accepted w o refl refl
     (field-goes flagsField (flagNumbers (machine .flags)) _ refl (lit< tt) _ _ Accepted w o refl (ap (λ (t : Bool). demand t BadFlag) (flags-fit (machine .flags)))
     (field-goes (countField room) (bytesOf 4 (length memory)) _ (length-bytes 4 (length memory)) (lit< tt) _ _ (onCount then onRoom) onRest o refl
-    (ap (λ (n : ℕ). demand (countFits n) BadWordCount then demand (leb n room) ShortMemory) eM)
+    (ap (λ (n : ℕ). demand (countFormed n) BadWordCount then demand (leb n room) ShortMemory) eM)
     (memory-goes (fieldsFor M) M _ memory (fieldBytes endField [] ++ rest) _ _ (ap (λ (n : ℕ). memoryFields (fieldsFor n) memory ++ (fieldBytes endField [] ++ rest)) (sym eM)) (sym eM) (fields-enough M) memory-below
     (field-goes endField [] rest refl (lit< tt) _ _ Accepted onRest o refl refl
     (ap₂ (λ (v : ℕ) (m : Machine). onRest ▷ loaded v m memory) eV (machine-back machine eight registers-below))))
     ∙ ap (λ (v : Verdict). v ▷ o) (then-assoc onCount onRoom onRest))))
 
-pub roundTrip : RoundTrip
-roundTrip version machine memory room known eight registers-below some most memory-below fits =
+pub round-trip : RoundTrip
+round-trip version machine memory room known eight registers-below some most memory-below fits =
     let a : leb 1 (length memory) ≡ true = le-leb _ _ some in
     let b : leb (length memory) mostWords ≡ true = le-leb _ _ most in
     let c : leb (length memory) room ≡ true = le-leb _ _ fits in
     ap (λ (bytes : List ℕ). readOf bytes room) (sym (append-nil (imageOf version machine memory)))
-    ∙ imageRead version machine memory [] room eight registers-below (omega arith) memory-below
+    ∙ image-read version machine memory [] room eight registers-below (omega arith) memory-below
     ∙ rw (known, a, b, c)
 
 -- ---- bytes that are read are the image of what was read
@@ -82,16 +82,16 @@ module _ (room version₀ : ℕ) (machine : Machine) (memory : List ℕ) where
   all = loaded version₀ machine memory
 
   end-is : (version registers flags words bytes : List ℕ) → Below 256 bytes → endFrom room version registers flags words bytes ≡ all
-      → (bytes ≡ end) × (number version ≡ version₀) × (machineOf registers flags ≡ machine) × (words ≡ memory)
+      → (bytes ≡ end) × (number version ≡ version₀) × (machineFrom registers flags ≡ machine) × (words ≡ memory)
   end-is version registers flags words bytes h e =
-      let t = field-taken endField (λ (nothing rest : List ℕ). demand (eqb (length rest) 0) TrailingBytes ▷ loaded (number version) (machineOf registers flags) words) bytes h e in
-      let k = went-on (demand (eqb (length (t .rest)) 0) TrailingBytes) (loaded (number version) (machineOf registers flags) words) (t .goes) in
-      let l : loaded (number version) (machineOf registers flags) words ≡ all = k .1 in
+      let t = field-taken endField (λ (nothing rest : List ℕ). demand (eqb (length rest) 0) TrailingBytes ▷ loaded (number version) (machineFrom registers flags) words) bytes h e in
+      let k = went-on (demand (eqb (length (t .rest)) 0) TrailingBytes) (loaded (number version) (machineFrom registers flags) words) (t .goes) in
+      let l : loaded (number version) (machineFrom registers flags) words ≡ all = k .1 in
       let none : length (t .rest) ≡ 0 = eqb-true _ _ (demanded _ _ (k .0)) in
       (t .is ∙ ap₂ (λ (x y : List ℕ). fieldBytes endField x ++ y) (no-elements (t .value) (t .long)) (no-elements (t .rest) none) ∙ append-nil end, cc, cc, cc)
 
   memory-is : (version registers flags count bytes : List ℕ) → length count ≡ 4 → Below 256 count → Below 256 bytes → memoryFrom room version registers flags count bytes ≡ all
-      → (count ≡ bytesOf 4 (length memory)) × (bytes ≡ fromMemory) × (number version ≡ version₀) × (machineOf registers flags ≡ machine)
+      → (count ≡ bytesOf 4 (length memory)) × (bytes ≡ fromMemory) × (number version ≡ version₀) × (machineFrom registers flags ≡ machine)
   memory-is version registers flags count bytes l hc h e =
       let M : ℕ = number count in
       let t = memory-taken (fieldsFor M) M (endFrom room version registers flags) bytes (fields-enough M) h e in
@@ -123,9 +123,9 @@ module _ (room version₀ : ℕ) (machine : Machine) (memory : List ℕ) where
       let registers : t .value ≡ wordBytes (machine .regs) = sym (bytes-of-words 8 (t .value) (t .long) (t .value-below)) ∙ ap wordBytes (z .2) in
       (t .is ∙ ap₂ (λ (x y : List ℕ). fieldBytes registersField x ++ y) registers (z .0), z .1)
 
-pub onlyImages : OnlyImages
+pub only-images : OnlyImages
 unfolding imageOf
-onlyImages room version₀ machine memory bytes h e =
+only-images room version₀ machine memory bytes h e =
     let t = field-taken versionField (registersFrom room) bytes h (sym (in-stages room bytes) ∙ e) in
     let z = registers-is room version₀ machine memory (t .value) (t .rest) (t .rest-below) (t .goes) in
     let version : t .value ≡ version₀ ∷ [] = single (t .value) (t .long) ∙ ap {B = List ℕ} (λ (x : ℕ). x ∷ []) (z .1) in

@@ -1,11 +1,13 @@
-pub mod Bench
-pub mod BytesLaws
+mod Bench
+pub mod Bytes
+pub mod Places
 pub mod Outcomes
-pub mod FieldLaws
-pub mod MemoryLaws
-pub mod Machines
+pub mod Headers
+pub mod Fields
+pub mod Memories
+mod Machines
 pub mod Stages
 pub mod Inverse
-pub mod Cuts
+mod Cuts
 pub mod Loaded
-pub mod TwoCalls
+mod TwoCalls

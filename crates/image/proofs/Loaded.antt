@@ -17,13 +17,13 @@ use Rattle.model.proofs.Verdicts.{demanded, both}
 use Rattle.image.specs.declared.ReadAnswer.{ReadAnswer}
 use Rattle.image.specs.declared.ReadResult.{ReadResult}
 use Rattle.image.specs.Bytes.{number, wordsIn}
-use Rattle.image.specs.Format.{Field, versionField, registersField, flagsField, countField, wordsField, endField, wordsPerField, fieldsFor, isVersion, countFits}
+use Rattle.image.specs.Format.{Field, versionField, registersField, flagsField, countField, wordsField, endField, wordsPerField, fieldsFor, isVersion, countFormed}
 use Rattle.image.specs.Reading.{Outcome, loaded, refused, fieldVerdict, readField, readMemory, readOf}
-use Rattle.image.specs.Calls.{readResult, readWords, Reads}
+use Rattle.image.specs.Calls.{readResult, outcomeWords, readReturned, readWords, Reads}
 use Rattle.image.specs.Theorems.{LoadedFits}
-use Rattle.image.proofs.BytesLaws.{length-words}
-use Rattle.image.proofs.FieldLaws.{facts}
-use Rattle.image.proofs.MemoryLaws.{fields-enough}
+use Rattle.image.proofs.Bytes.{length-words}
+use Rattle.image.proofs.Fields.{facts}
+use Rattle.image.proofs.Memories.{fields-enough}
 use Rattle.image.proofs.Outcomes.{went-on}
 
 module _ {version : ℕ} {machine : Machine} {words : List ℕ} where
@@ -33,7 +33,7 @@ module _ {version : ℕ} {machine : Machine} {words : List ℕ} where
   unfolding readField
   past f next bytes e = let w = went-on (fieldVerdict f bytes) _ e in (facts f bytes (w .0) .4, w .1)
 
-  past-words : (n count : ℕ) (next : List ℕ → List ℕ → Outcome) (bytes : List ℕ) → count ≤ 1024 * n → readMemory n count bytes next ≡ loaded version machine words
+  past-words : (n count : ℕ) (next : List ℕ → List ℕ → Outcome) (bytes : List ℕ) → count ≤ wordsPerField * n → readMemory n count bytes next ≡ loaded version machine words
       → (read : List ℕ) × (rest : List ℕ) × (length read ≡ count) × (next read rest ≡ loaded version machine words)
   unfolding readMemory
   past-words zero count next bytes h e = ([], bytes, omega arith, e)
@@ -45,7 +45,7 @@ module _ {version : ℕ} {machine : Machine} {words : List ℕ} where
       (wordsIn k value ++ g .0, g .1, length-append (wordsIn k value) (g .0) ∙ omega (arith, length-words k value, g .2), g .3)
 
   -- the version and the count that were loaded are those that the rules asked for
-  ruled : (bytes : List ℕ) (room : ℕ) → readOf bytes room ≡ loaded version machine words → (isVersion version ≡ true) × (countFits (length words) ≡ true)
+  ruled : (bytes : List ℕ) (room : ℕ) → readOf bytes room ≡ loaded version machine words → (isVersion version ≡ true) × (countFormed (length words) ≡ true)
   unfolding readOf
   ruled bytes room e =
       let v = past versionField _ bytes e in
@@ -60,14 +60,14 @@ module _ {version : ℕ} {machine : Machine} {words : List ℕ} where
       let lv : v₀ ≡ version = cc (k .1) in
       let lm : m .0 ≡ words = cc (k .1) in
       let s : length words ≡ M = ap length (sym lm) ∙ m .2 in
-      (ap isVersion (sym lv) ∙ demanded (isVersion v₀) WrongVersion (v .0), ap countFits s ∙ demanded (countFits M) BadWordCount (both (demand (countFits M) BadWordCount) _ (c .0) .0))
+      (ap isVersion (sym lv) ∙ demanded (isVersion v₀) WrongVersion (v .0), ap countFormed s ∙ demanded (countFormed M) BadWordCount (both (demand (countFormed M) BadWordCount) _ (c .0) .0))
 
   -- the writer's version
   pub version-one : (bytes : List ℕ) (room : ℕ) → readOf bytes room ≡ loaded version machine words → version ≡ 1
   version-one bytes room e = eqb-true version 1 (ruled bytes room e .0)
 
-pub loadedFits : LoadedFits
-loadedFits room version machine memory bytes e =
+pub loaded-fits : LoadedFits
+loaded-fits room version machine memory bytes e =
     let fits = and-eq-true-iff (leb 1 (length memory)) (leb (length memory) mostWords) .0 (ruled bytes room e .1) in
     (leb-true 1 (length memory) (fits .0), leb-true (length memory) mostWords (fits .1))
 
@@ -82,6 +82,7 @@ pub record Loads (bytes memory memory′ : List ℕ) (r : ReadResult) (count : �
 
 module _ {bytes memory memory′ : List ℕ} {r : ReadResult} {count : ℕ} where
   pub loads : Reads bytes memory memory′ r → r .answer ≡ ReadAnswer.Loaded count → Loads bytes memory memory′ r count
+  unfolding readReturned readWords
   loads h e = go (readOf bytes (length memory)) refl
     where
       go : (o : Outcome) → readOf bytes (length memory) ≡ o → Loads bytes memory memory′ r count
@@ -92,7 +93,7 @@ module _ {bytes memory memory′ : List ℕ} {r : ReadResult} {count : ℕ} wher
             words = words;
             is = is ∙ ap (λ (x : ReadResult). loaded version (x .machine) words) (sym k);
             long = cc;
-            whole = h .words ∙ ap (λ (o : Outcome). readWords o memory) is;
+            whole = h .words ∙ ap (λ (o : Outcome). outcomeWords o memory) is;
           }
       go (refused why) is =
           let k : r ≡ readResult (refused why) = h .result ∙ ap readResult is in

@@ -8,23 +8,23 @@ use lib.Dec.{leb}
 use lib.ListN.{length}
 use borrow.Author.Tests.{leb-true}
 use Rattle.arithmetic.specs.Words.{asNumber}
-use Rattle.arithmetic.proofs.Sums.{digit-bit, bit-digit}
+use Rattle.arithmetic.proofs.Bits.{digit-bit, bit-digit}
 use Rattle.model.specs.declared.Flags.{Flags}
 use Rattle.model.specs.declared.Machine.{Machine}
 use Rattle.model.specs.Packed.{flagNumbers}
 use Rattle.image.specs.Bytes.{wordBytes, wordsIn, Below}
-use Rattle.image.specs.Format.{flagsFit}
-use Rattle.image.specs.Reading.{machineOf}
-use Rattle.image.proofs.BytesLaws.{words-of-bytes}
+use Rattle.image.specs.Format.{flagsFormed}
+use Rattle.image.specs.Reading.{machineFrom}
+use Rattle.image.proofs.Bytes.{words-of-bytes}
 
 flag-fits : (t : Bool) → leb (asNumber t) 1 ≡ true
 flag-fits true = refl
 flag-fits false = refl
 
-pub flags-fit : (f : Flags) → flagsFit (flagNumbers f) ≡ true
+pub flags-fit : (f : Flags) → flagsFormed (flagNumbers f) ≡ true
 flags-fit f = rw (flag-fits (f .carry), flag-fits (f .overflow), flag-fits (f .negative), flag-fits (f .zero))
 
-pub machine-back : (m : Machine) → length (m .regs) ≡ 8 → Below (2 ^ 32) (m .regs) → machineOf (wordBytes (m .regs)) (flagNumbers (m .flags)) ≡ m
+pub machine-back : (m : Machine) → length (m .regs) ≡ 8 → Below (2 ^ 32) (m .regs) → machineFrom (wordBytes (m .regs)) (flagNumbers (m .flags)) ≡ m
 machine-back m l h =
     let e : wordsIn 8 (wordBytes (m .regs)) ≡ m .regs = ap (λ (n : ℕ). wordsIn n (wordBytes (m .regs))) (sym l) ∙ words-of-bytes (m .regs) h in
     let f : Flags = m .flags in
@@ -41,7 +41,7 @@ four-back a b c d e =
     (r .0, r .1, q .1, p .1)
 
 -- the flags that bytes hold, as bytes, are the bytes
-pub flags-back : (registers l : List ℕ) → length l ≡ 4 → flagsFit l ≡ true → flagNumbers (machineOf registers l .flags) ≡ l
+pub flags-back : (registers l : List ℕ) → length l ≡ 4 → flagsFormed l ≡ true → flagNumbers (machineFrom registers l .flags) ≡ l
 flags-back registers (a ∷ b ∷ c ∷ d ∷ []) e h =
     let f = four-back (leb a 1) (leb b 1) (leb c 1) (leb d 1) h in
     let p₀ = bit-digit a (leb-true a 1 (f .0)) in

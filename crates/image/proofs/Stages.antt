@@ -8,14 +8,14 @@ use Rattle.model.specs.declared.Refusal.the-variants.{TrailingBytes}
 use Rattle.model.specs.Refusals.{demand}
 use Rattle.image.specs.Bytes.{number}
 use Rattle.image.specs.Format.{versionField, registersField, flagsField, countField, endField, fieldsFor}
-use Rattle.image.specs.Reading.{Outcome, loaded, _▷_, readField, readMemory, readOf, machineOf}
+use Rattle.image.specs.Reading.{Outcome, loaded, _▷_, readField, readMemory, readOf, machineFrom}
 
 module _ (room : ℕ) where
   abbrev pub endFrom : (version registers flags memory bytes : List ℕ) → Outcome
   endFrom version registers flags memory bytes =
       readField endField bytes λ nothing rest.
       demand (eqb (length rest) 0) TrailingBytes
-      ▷ loaded (number version) (machineOf registers flags) memory
+      ▷ loaded (number version) (machineFrom registers flags) memory
 
   abbrev pub memoryFrom : (version registers flags count bytes : List ℕ) → Outcome
   memoryFrom version registers flags count bytes = readMemory (fieldsFor (number count)) (number count) bytes (endFrom version registers flags)

@@ -9,10 +9,11 @@ use Rattle.model.specs.declared.Machine.{Machine}
 use Rattle.model.specs.declared.Refusal.the-variants.{ShortOutput}
 use Rattle.model.specs.declared.Verdict.{Verdict}
 use Rattle.model.specs.declared.Verdict.the-variants.{Accepted, Refused}
-use Rattle.model.specs.Refusals.{demand, _then_, memoryFits, refusalNumber, verdictNumber}
+use Rattle.model.specs.Refusals.{refusalNumber, verdictNumber, leftBy, demand, _then_, memoryFits}
 use Rattle.model.specs.Words.{overlay}
+use Rattle.model.specs.Interpreter.{machine}
 use Rattle.model.specs.Packed.{noFlags}
-use Rattle.image.specs.declared.WriteResult.{WriteResult}
+use Rattle.image.specs.declared.WriteAnswer.{WriteAnswer}
 use Rattle.image.specs.declared.ReadAnswer.{ReadAnswer}
 use Rattle.image.specs.declared.ReadResult.{ReadResult}
 use Rattle.image.specs.Format.{imageOf}
@@ -24,31 +25,38 @@ use Rattle.image.specs.Reading.{Outcome, loaded, refused, readOf}
 unfoldable pub writeVerdict : (memory image out : List ℕ) → Verdict
 writeVerdict memory image out = memoryFits memory then demand (leb (length image) (length out)) ShortOutput
 
-abbrev pub writeResult : Verdict → (image : List ℕ) → WriteResult
-writeResult Accepted image = WriteResult.Written (length image)
-writeResult (Refused why) image = WriteResult.Refused why
+abbrev pub writeResult : Verdict → (image : List ℕ) → WriteAnswer
+writeResult Accepted image = WriteAnswer.Written (length image)
+writeResult (Refused why) image = WriteAnswer.Refused why
 
-abbrev pub writeBytes : Verdict → (image out : List ℕ) → List ℕ
-writeBytes Accepted image out = overlay image out
-writeBytes (Refused why) image out = out
-
--- the paper's number of an answer, 0 for one that is carried out
-abbrev pub writeNumber : WriteResult → ℕ
-writeNumber (WriteResult.Written size) = 0
-writeNumber (WriteResult.Refused why) = refusalNumber why
+-- document 01's number of an answer, 0 for one that is carried out
+abbrev pub writeNumber : WriteAnswer → ℕ
+writeNumber (WriteAnswer.Written size) = 0
+writeNumber (WriteAnswer.Refused why) = refusalNumber why
 
 -- how many bytes were written: none by a refused write
 abbrev pub verdictSize : Verdict → (image : List ℕ) → ℕ
 verdictSize Accepted image = length image
 verdictSize (Refused why) image = 0
 
-abbrev pub writeSize : WriteResult → ℕ
-writeSize (WriteResult.Written size) = size
-writeSize (WriteResult.Refused why) = 0
+abbrev pub writeSize : WriteAnswer → ℕ
+writeSize (WriteAnswer.Written size) = size
+writeSize (WriteAnswer.Refused why) = 0
 
-pub record Writes (memory : List ℕ) (machine : Machine) (out out′ : List ℕ) (r : WriteResult) : Type 0 where
-  pub result : r ≡ writeResult (writeVerdict memory (imageOf 1 machine memory) out) (imageOf 1 machine memory)
-  pub bytes : out′ ≡ writeBytes (writeVerdict memory (imageOf 1 machine memory) out) (imageOf 1 machine memory) out
+-- what a write returns, and the bytes that it leaves
+unfoldable pub writeReturned : (memory : List ℕ) → Machine → (out : List ℕ) → WriteAnswer
+writeReturned memory machine out =
+    let image = imageOf 1 machine memory in
+    writeResult (writeVerdict memory image out) image
+
+unfoldable pub writeBytes : (memory : List ℕ) → Machine → (out : List ℕ) → List ℕ
+writeBytes memory machine out =
+    let image = imageOf 1 machine memory in
+    leftBy (writeVerdict memory image out) (overlay image out) out
+
+pub record Writes (memory : List ℕ) (machine : Machine) (out out′ : List ℕ) (r : WriteAnswer) : Type 0 where
+  pub result : r ≡ writeReturned memory machine out
+  pub bytes : out′ ≡ writeBytes memory machine out
   pub number : writeNumber r ≡ verdictNumber (writeVerdict memory (imageOf 1 machine memory) out)
   pub size : writeSize r ≡ verdictSize (writeVerdict memory (imageOf 1 machine memory) out) (imageOf 1 machine memory)
 
@@ -56,15 +64,15 @@ pub record Writes (memory : List ℕ) (machine : Machine) (out out′ : List ℕ
 
 -- a refused read returns registers 0 and flags false
 abbrev pub clearedMachine : Machine
-clearedMachine = record { regs = replicate 8 0; flags = noFlags }
+clearedMachine = machine (replicate 8 0) noFlags
 
 abbrev pub readResult : Outcome → ReadResult
 readResult (loaded version machine words) = record { answer = ReadAnswer.Loaded (length words); machine = machine }
 readResult (refused why) = record { answer = ReadAnswer.Refused why; machine = clearedMachine }
 
-abbrev pub readWords : Outcome → (memory : List ℕ) → List ℕ
-readWords (loaded version machine words) memory = overlay words memory
-readWords (refused why) memory = memory
+abbrev pub outcomeWords : Outcome → (memory : List ℕ) → List ℕ
+outcomeWords (loaded version machine words) memory = overlay words memory
+outcomeWords (refused why) memory = memory
 
 -- 8 to 15, 0 for an image that is loaded
 abbrev pub outcomeNumber : Outcome → ℕ
@@ -84,8 +92,15 @@ abbrev pub readCount : ReadAnswer → ℕ
 readCount (ReadAnswer.Loaded words) = words
 readCount (ReadAnswer.Refused why) = 0
 
+-- what a read returns, and the memory that it leaves
+unfoldable pub readReturned : (bytes memory : List ℕ) → ReadResult
+readReturned bytes memory = readResult (readOf bytes (length memory))
+
+unfoldable pub readWords : (bytes memory : List ℕ) → List ℕ
+readWords bytes memory = outcomeWords (readOf bytes (length memory)) memory
+
 pub record Reads (bytes memory memory′ : List ℕ) (r : ReadResult) : Type 0 where
-  pub result : r ≡ readResult (readOf bytes (length memory))
-  pub words : memory′ ≡ readWords (readOf bytes (length memory)) memory
+  pub result : r ≡ readReturned bytes memory
+  pub words : memory′ ≡ readWords bytes memory
   pub number : readNumber (r .answer) ≡ outcomeNumber (readOf bytes (length memory))
   pub count : readCount (r .answer) ≡ outcomeCount (readOf bytes (length memory))

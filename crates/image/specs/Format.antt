@@ -32,12 +32,12 @@ abbrev pub isVersion : ℕ → Bool
 isVersion version = eqb version 1
 
 -- a byte each for C, V, N, Z, 0 or 1
-abbrev pub flagsFit : List ℕ → Bool
-flagsFit flags = leb (getD flags 0 0) 1 && leb (getD flags 1 0) 1 && leb (getD flags 2 0) 1 && leb (getD flags 3 0) 1
+abbrev pub flagsFormed : List ℕ → Bool
+flagsFormed flags = leb (getD flags 0 0) 1 && leb (getD flags 1 0) 1 && leb (getD flags 2 0) 1 && leb (getD flags 3 0) 1
 
 -- M is neither 0 nor above 16,777,216
-abbrev pub countFits : ℕ → Bool
-countFits words = leb 1 words && leb words mostWords
+abbrev pub countFormed : ℕ → Bool
+countFormed words = leb 1 words && leb words mostWords
 
 abbrev pub versionField : Field
 versionField = record { tag = 0x01; due = 1; rule = λ value. demand (isVersion (number value)) WrongVersion }
@@ -46,7 +46,7 @@ abbrev pub registersField : Field
 registersField = record { tag = 0x02; due = 32; rule = λ value. Accepted }
 
 abbrev pub flagsField : Field
-flagsField = record { tag = 0x03; due = 4; rule = λ value. demand (flagsFit value) BadFlag }
+flagsField = record { tag = 0x03; due = 4; rule = λ value. demand (flagsFormed value) BadFlag }
 
 -- M, for a lent memory of so many words
 abbrev pub countField : (room : ℕ) → Field
@@ -54,7 +54,7 @@ countField room =
     record {
       tag = 0x04;
       due = 4;
-      rule = λ value. demand (countFits (number value)) BadWordCount then demand (leb (number value) room) ShortMemory;
+      rule = λ value. demand (countFormed (number value)) BadWordCount then demand (leb (number value) room) ShortMemory;
     }
 
 -- a field of so many words
@@ -67,7 +67,7 @@ endField = record { tag = 0xFF; due = 0; rule = λ value. Accepted }
 -- ---- the words of a memory
 
 abbrev pub wordsPerField : ℕ
-wordsPerField = 1024
+wordsPerField = 1_024
 
 -- how many fields so many words take
 unfoldable pub fieldsFor : ℕ → ℕ

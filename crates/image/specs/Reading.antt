@@ -48,8 +48,8 @@ readMemory (suc n) words bytes next =
     readMemory n (words - wordsPerField) rest λ more end.
     next (wordsIn (min wordsPerField words) value ++ more) end
 
-abbrev pub machineOf : (registers flags : List ℕ) → Machine
-machineOf registers flags =
+abbrev pub machineFrom : (registers flags : List ℕ) → Machine
+machineFrom registers flags =
     record {
       regs = wordsIn 8 registers;
       flags = record { carry = eqb (getD flags 0 0) 1; overflow = eqb (getD flags 1 0) 1; negative = eqb (getD flags 2 0) 1; zero = eqb (getD flags 3 0) 1 };
@@ -65,4 +65,4 @@ readOf bytes room =
     readMemory (fieldsFor (number count)) (number count) afterCount λ memory afterMemory.
     readField endField afterMemory λ nothing rest.
     demand (eqb (length rest) 0) TrailingBytes
-    ▷ loaded (number version) (machineOf registers flags) memory
+    ▷ loaded (number version) (machineFrom registers flags) memory

@@ -10,11 +10,11 @@ use Rattle.model.specs.declared.Machine.{Machine}
 use Rattle.model.specs.declared.Refusal.the-variants.{CutImage, WrongVersion, BadWordCount, ShortMemory, TrailingBytes}
 use Rattle.model.specs.Refusals.{demand, _then_, mostWords}
 use Rattle.model.specs.Words.{overlay}
-use Rattle.image.specs.declared.WriteResult.{WriteResult}
+use Rattle.image.specs.declared.WriteAnswer.{WriteAnswer}
 use Rattle.image.specs.declared.ReadAnswer.{ReadAnswer}
 use Rattle.image.specs.declared.ReadResult.{ReadResult}
 use Rattle.image.specs.Bytes.{Below}
-use Rattle.image.specs.Format.{isVersion, countFits, wordsPerField, fieldsFor, imageOf}
+use Rattle.image.specs.Format.{isVersion, countFormed, wordsPerField, fieldsFor, imageOf}
 use Rattle.image.specs.Reading.{loaded, refused, _▷_, readOf}
 use Rattle.image.specs.Calls.{Writes, Reads}
 
@@ -53,7 +53,7 @@ ImageRead =
     → length memory < 2 ^ 32 → Below (2 ^ 32) memory
     → readOf (imageOf version machine memory ++ rest) room
     ≡ ((demand (isVersion version) WrongVersion
-    then demand (countFits (length memory)) BadWordCount
+    then demand (countFormed (length memory)) BadWordCount
     then demand (leb (length memory) room) ShortMemory
     then demand (eqb (length rest) 0) TrailingBytes)
     ▷ loaded version machine memory)
@@ -90,7 +90,7 @@ abbrev pub ReadBack : Type 0
 ReadBack =
     (memory : List ℕ) (machine : Machine) (out out′ : List ℕ) (n : ℕ) (room room′ : List ℕ) (r : ReadResult)
     → length (machine .regs) ≡ 8 → Below (2 ^ 32) (machine .regs) → Below (2 ^ 32) memory
-    → Writes memory machine out out′ (WriteResult.Written n)
+    → Writes memory machine out out′ (WriteAnswer.Written n)
     → length memory ≤ length room
     → Reads (take n out′) room room′ r
     → (r ≡ record { answer = ReadAnswer.Loaded (length memory); machine = machine }) × (room′ ≡ overlay memory room)
@@ -98,10 +98,10 @@ ReadBack =
 -- what the reader loaded, the writer writes as the bytes that were read: it can produce all that is accepted
 abbrev pub WriteBack : Type 0
 WriteBack =
-    (bytes room room′ : List ℕ) (r : ReadResult) (n : ℕ) (out out′ : List ℕ) (w : WriteResult)
+    (bytes room room′ : List ℕ) (r : ReadResult) (n : ℕ) (out out′ : List ℕ) (w : WriteAnswer)
     → Below 256 bytes
     → Reads bytes room room′ r
     → r .answer ≡ ReadAnswer.Loaded n
     → length bytes ≤ length out
     → Writes (take n room′) (r .machine) out out′ w
-    → (w ≡ WriteResult.Written (length bytes)) × (out′ ≡ overlay bytes out)
+    → (w ≡ WriteAnswer.Written (length bytes)) × (out′ ≡ overlay bytes out)

@@ -5,10 +5,10 @@ ghost use mathlib.Core.Path.{_≡_};
 ghost use Prim.Native.Nat.{min};
 ghost use Rattle.image.specs.Format.{wordsPerField};
 
-const WORDS_PER_FIELD: usize = 1024;
+pub const WORDS_PER_FIELD: usize = 1_024;
 
 // Written: how many bytes the image has.
-pub enum WriteResult {
+pub enum WriteAnswer {
     Written(usize),
     Refused(Refusal),
 }

@@ -1,5 +1,5 @@
 // Writes and reads images at the borders of their fields, and meets every refusal of the writer and the reader but 2, whose
-// memory is too large for a program's stack. A line a case: its name, words, bytes, the paper's number (0: carried out),
+// memory is too large for a program's stack. A line a case: its name, words, bytes, document 01's number (0: carried out),
 // whether what was lent is afterwards what it must be, and a checksum of the bytes.
 mod lists;
 mod parts;
@@ -12,66 +12,49 @@ use parts::read_part;
 use parts::size_of;
 use parts::write_number;
 use parts::write_part;
+use text::put_text;
 
-fn column(n: u64) {
+// The largest memory that is written, and the size of its image.
+const TRIP_WORDS: usize = 4_096;
+
+const TRIP_BYTES: usize = 16_452;
+
+fn print_number(number: u64) {
     io::write_all(STDOUT_FILENO, b" ");
-    io::print_decimal(STDOUT_FILENO, n);
+    io::print_decimal(STDOUT_FILENO, number);
 }
 
 fn show(name: &[u8], words: usize, size: usize, number: u64, right: bool, bytes: &[u8]) {
     io::write_all(STDOUT_FILENO, name);
-    column(words as u64);
-    column(size as u64);
-    column(number);
-    column(right as u64);
-    column(checksum(bytes) as u64);
+    print_number(words as u64);
+    print_number(size as u64);
+    print_number(number);
+    print_number(right as u64);
+    print_number(checksum(bytes) as u64);
     io::write_all(STDOUT_FILENO, b"\n");
 }
 
-fn put(bytes: &mut [u8], at: usize, byte: u8) {
-    if at < bytes.len() {
-        bytes[at] = byte;
-    }
-}
-
 // An image of so many words, written and read back: both memories are then the same.
-fn trip(words: usize, memory: &mut [u32], bytes: &mut [u8], back: &mut [u32]) {
-    fill(memory, words);
-    let room = bytes.len();
-    let size = size_of(write_part(memory, words, bytes, room));
-    let number = read_part(bytes, size, back, words);
-    let right = equal(memory, back);
-    show(b"words", words, size, number, right, bytes);
-}
-
 fn round_trip(words: usize) {
-    let mut memory = [0u32; 4096];
-    let mut bytes = [0u8; 16452];
-    let mut back = [0u32; 4096];
-    trip(words, &mut memory, &mut bytes, &mut back);
+    let mut memory = [0u32; TRIP_WORDS];
+    let mut bytes = [0u8; TRIP_BYTES];
+    let mut back = [0u32; TRIP_WORDS];
+    fill(&mut memory, words);
+    let size = size_of(write_part(&memory, words, &mut bytes, TRIP_BYTES));
+    let number = read_part(&bytes, size, &mut back, words);
+    let right = equal(&memory, &back);
+    show(b"words", words, size, number, right, &bytes);
 }
 
 // Writes one word's image, changes one byte, and reads so many bytes of it into so many words, which must stay.
-fn change(
-    name: &[u8],
-    at: usize,
-    byte: u8,
-    size: usize,
-    room: usize,
-    bytes: &mut [u8],
-    memory: &mut [u32],
-) {
-    write_part(&[0x0001_3C21], 1, bytes, 63);
-    put(bytes, at, byte);
-    let number = read_part(bytes, size, memory, room);
-    let right = equal(memory, &[9, 9]);
-    show(name, room, size, number, right, bytes);
-}
-
 fn damaged(name: &[u8], at: usize, byte: u8, size: usize, room: usize) {
     let mut bytes = [0u8; 64];
     let mut memory = [9u32; 2];
-    change(name, at, byte, size, room, &mut bytes, &mut memory);
+    write_part(&[0x0001_3C21], 1, &mut bytes, 63);
+    put_text(&mut bytes, at, &[byte]);
+    let number = read_part(&bytes, size, &mut memory, room);
+    let right = equal(&memory, &[9, 9]);
+    show(name, room, size, number, right, &bytes);
 }
 
 // A writer of so many words to so many bytes, which must stay.
@@ -88,7 +71,7 @@ fn main() {
     round_trip(1_024);
     round_trip(1_025);
     round_trip(2_048);
-    round_trip(4_096);
+    round_trip(TRIP_WORDS);
     unwritten(0, 63);
     unwritten(1, 62);
     damaged(b"nothing", 63, 0, 0, 1);

@@ -1,6 +1,6 @@
 // Writing a part of a memory to a part of an output, and reading back; their numbers.
 use image::ReadAnswer;
-use image::WriteResult;
+use image::WriteAnswer;
 use model::Flags;
 use model::Machine;
 use refusals::refusal_number;
@@ -19,27 +19,27 @@ fn machine() -> Machine {
 }
 
 // How many bytes were written.
-pub fn size_of(result: WriteResult) -> usize {
+pub fn size_of(result: WriteAnswer) -> usize {
     match result {
-        WriteResult::Written(size) => size,
-        WriteResult::Refused(_) => 0,
+        WriteAnswer::Written(size) => size,
+        WriteAnswer::Refused(_) => 0,
     }
 }
 
-pub fn write_number(result: WriteResult) -> u64 {
+pub fn write_number(result: WriteAnswer) -> u64 {
     match result {
-        WriteResult::Written(_) => 0,
-        WriteResult::Refused(why) => refusal_number(why) as u64,
+        WriteAnswer::Written(_) => 0,
+        WriteAnswer::Refused(why) => refusal_number(why) as u64,
     }
 }
 
 // Writes the first words of a memory to the first bytes of an output.
-pub fn write_part(memory: &[u32], words: usize, bytes: &mut [u8], room: usize) -> WriteResult {
+pub fn write_part(memory: &[u32], words: usize, bytes: &mut [u8], room: usize) -> WriteAnswer {
     if memory.len() < words {
-        return WriteResult::Written(0);
+        return WriteAnswer::Written(0);
     }
     if bytes.len() < room {
-        return WriteResult::Written(0);
+        return WriteAnswer::Written(0);
     }
     image_writer::write(&memory[0..words], machine(), &mut bytes[0..room])
 }

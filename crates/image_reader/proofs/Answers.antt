@@ -17,34 +17,34 @@ use Rattle.model.specs.Refusals.{demand, _then_, mostWords}
 use Rattle.model.proofs.Verdicts.{demanded, both}
 use Rattle.model.proofs.Stores.{overlaid}
 use Rattle.image.specs.declared.ReadAnswer.{ReadAnswer}
-use Rattle.image.specs.Format.{versionField, registersField, flagsField, countField, endField, countFits, fieldsFor, spanOf}
+use Rattle.image.specs.Format.{versionField, registersField, flagsField, countField, endField, countFormed, fieldsFor, spanOf}
 use Rattle.image.specs.Reading.{Outcome, loaded, refused, _▷_, headerVerdict, fieldVerdict, readOf}
-use Rattle.image.specs.Calls.{clearedMachine, readResult, readWords, outcomeNumber, outcomeCount, readNumber, readCount, Reads}
-use Rattle.image.proofs.MemoryLaws.{fields-enough}
-use Rattle.image_reader.specs.Layout.{countIn, machineIn, memoryIn, headVerdict, memoryVerdict, endVerdict, tailVerdict, imageVerdict}
-use Rattle.image_reader.proofs.Passes.{versionIn, wordsOf, passes, length-memory-in}
+use Rattle.image.specs.Calls.{clearedMachine, readResult, outcomeWords, outcomeNumber, outcomeCount, readNumber, readCount, readReturned, readWords, Reads}
+use Rattle.image.proofs.Memories.{fields-enough}
+use Rattle.image_reader.specs.Passes.{imageCount, imageMachine, imageMemory, headVerdict, memoryVerdict, endVerdict, tailVerdict, imageVerdict}
+use Rattle.image_reader.proofs.Passes.{imageVersion, imageWords, passes, length-image-memory}
 
 -- what an accepted head shows of the word count
-pub head-accepted : (bytes : List ℕ) (room : ℕ) → headVerdict bytes room ≡ Accepted → (countIn bytes ≤ mostWords) × (countIn bytes ≤ room)
+pub head-accepted : (bytes : List ℕ) (room : ℕ) → headVerdict bytes room ≡ Accepted → (imageCount bytes ≤ mostWords) × (imageCount bytes ≤ room)
 unfolding headVerdict fieldVerdict
 head-accepted bytes room e =
-    let M : ℕ = countIn bytes in
+    let M : ℕ = imageCount bytes in
     let e₁ = both (fieldVerdict versionField bytes) _ e .1 in
     let e₂ = both (fieldVerdict registersField (drop 4 bytes)) _ e₁ .1 in
     let e₃ = both (fieldVerdict flagsField (drop 39 bytes)) _ e₂ .1 in
     let e₄ = both (headerVerdict 4 4 (drop 46 bytes)) (countField room .rule _) e₃ .1 in
-    let e₅ : (demand (countFits M) BadWordCount then demand (leb M room) ShortMemory) ≡ Accepted = rw drop-drop at e₄ in
-    let e₆ = both (demand (countFits M) BadWordCount) (demand (leb M room) ShortMemory) e₅ in
+    let e₅ : (demand (countFormed M) BadWordCount then demand (leb M room) ShortMemory) ≡ Accepted = rw drop-drop at e₄ in
+    let e₆ = both (demand (countFormed M) BadWordCount) (demand (leb M room) ShortMemory) e₅ in
     (leb-true _ _ (and-eq-true-iff (leb 1 M) (leb M mostWords) .0 (demanded _ BadWordCount (e₆ .0)) .1), leb-true _ _ (demanded _ ShortMemory (e₆ .1)))
 
 -- the verdict on the whole, by the verdict on the head
 pub refused-head : (bytes : List ℕ) (room : ℕ) {why : Refusal} → Refused why ≡ headVerdict bytes room → Refused why ≡ imageVerdict bytes room
-refused-head bytes room e = ap (λ (v : Verdict). v then tailVerdict (countIn bytes) 53 bytes) e
+refused-head bytes room e = ap (λ (v : Verdict). v then tailVerdict (imageCount bytes) 53 bytes) e
 
-pub accepted-head : (bytes : List ℕ) (room words : ℕ) {v : Verdict} → Accepted ≡ headVerdict bytes room → words ≡ countIn bytes → v ≡ tailVerdict words 53 bytes
+pub accepted-head : (bytes : List ℕ) (room words : ℕ) {v : Verdict} → Accepted ≡ headVerdict bytes room → words ≡ imageCount bytes → v ≡ tailVerdict words 53 bytes
     → v ≡ imageVerdict bytes room
 accepted-head bytes room words e p q =
-    q ∙ ap (λ (n : ℕ). tailVerdict n 53 bytes) p ∙ ap (λ (u : Verdict). u then tailVerdict (countIn bytes) 53 bytes) e
+    q ∙ ap (λ (n : ℕ). tailVerdict n 53 bytes) p ∙ ap (λ (u : Verdict). u then tailVerdict (imageCount bytes) 53 bytes) e
 
 -- an accepted end field lies within the bytes
 end-accepted : (at : ℕ) (bytes : List ℕ) → endVerdict (drop at bytes) ≡ Accepted → at ≤ length bytes
@@ -57,10 +57,10 @@ end-accepted at bytes e =
     omega (arith, length-drop at bytes)
 
 -- what an accepted image shows for the second pass
-pub image-accepted : (bytes : List ℕ) (room : ℕ) → imageVerdict bytes room ≡ Accepted → (53 + spanOf (countIn bytes) ≤ length bytes) × (countIn bytes ≤ room)
+pub image-accepted : (bytes : List ℕ) (room : ℕ) → imageVerdict bytes room ≡ Accepted → (53 + spanOf (imageCount bytes) ≤ length bytes) × (imageCount bytes ≤ room)
 unfolding tailVerdict
 image-accepted bytes room e =
-    let M : ℕ = countIn bytes in
+    let M : ℕ = imageCount bytes in
     let p = both (headVerdict bytes room) (tailVerdict M 53 bytes) e in
     let q = both (memoryVerdict (fieldsFor M) M (drop 53 bytes)) (endVerdict (drop (53 + spanOf M) bytes)) (p .1) in
     (end-accepted (53 + spanOf M) bytes (q .1), head-accepted bytes room (p .0) .1)
@@ -68,11 +68,12 @@ image-accepted bytes room e =
 -- ---- the contract
 
 module _ (bytes memory : List ℕ) where
-  judged : (o : Outcome) (memory′ : List ℕ) → o ≡ readOf bytes (length memory) → memory′ ≡ readWords o memory → Reads bytes memory memory′ (readResult o)
+  judged : (o : Outcome) (memory′ : List ℕ) → o ≡ readOf bytes (length memory) → memory′ ≡ outcomeWords o memory → Reads bytes memory memory′ (readResult o)
+  unfolding readReturned readWords
   judged o memory′ e w =
       record {
         result = ap readResult e;
-        words = w ∙ ap (λ (x : Outcome). readWords x memory) e;
+        words = w ∙ ap (λ (x : Outcome). outcomeWords x memory) e;
         number = numbered o ∙ ap outcomeNumber e;
         count = counted o ∙ ap outcomeCount e;
       }
@@ -86,8 +87,8 @@ module _ (bytes memory : List ℕ) where
       counted (refused why) = refl
 
   -- the outcome of a verdict
-  outcome : (v : Verdict) → v ≡ imageVerdict bytes (length memory) → (v ▷ loaded (versionIn bytes) (machineIn bytes) (wordsOf bytes)) ≡ readOf bytes (length memory)
-  outcome v e = ap (λ (x : Verdict). x ▷ loaded (versionIn bytes) (machineIn bytes) (wordsOf bytes)) e ∙ sym (passes bytes (length memory))
+  outcome : (v : Verdict) → v ≡ imageVerdict bytes (length memory) → (v ▷ loaded (imageVersion bytes) (imageMachine bytes) (imageWords bytes)) ≡ readOf bytes (length memory)
+  outcome v e = ap (λ (x : Verdict). x ▷ loaded (imageVersion bytes) (imageMachine bytes) (imageWords bytes)) e ∙ sym (passes bytes (length memory))
 
   pub read-refused : (why : Refusal) (m : Machine) → Refused why ≡ imageVerdict bytes (length memory) → m ≡ clearedMachine
       → Reads bytes memory memory (record { answer = ReadAnswer.Refused why; machine = m })
@@ -95,16 +96,16 @@ module _ (bytes memory : List ℕ) where
       let r = judged (refused why) memory (outcome (Refused why) e) refl in
       record { result = (λ i. record { answer = ReadAnswer.Refused why; machine = p i }) ∙ r .result; words = r .words; number = r .number; count = r .count }
 
-  pub read-loaded : (memory′ : List ℕ) (n : ℕ) (m : Machine) → Accepted ≡ imageVerdict bytes (length memory) → n ≡ countIn bytes → m ≡ machineIn bytes
-      → memory′ ≡ sets memory 0 (memoryIn (fieldsFor n) n (drop 53 bytes)) → Reads bytes memory memory′ (record { answer = ReadAnswer.Loaded n; machine = m })
-  read-loaded memory′ n m e c p q =
-      let M : ℕ = countIn bytes in
-      let l : length (wordsOf bytes) ≡ M = length-memory-in (fieldsFor M) M (drop 53 bytes) (fields-enough M) in
-      let fits : length (wordsOf bytes) ≤ length memory = omega (arith, image-accepted bytes (length memory) (sym e) .1) in
-      let w : memory′ ≡ readWords (loaded (versionIn bytes) (machineIn bytes) (wordsOf bytes)) memory =
-      q ∙ ap (λ (k : ℕ). sets memory 0 (memoryIn (fieldsFor k) k (drop 53 bytes))) c ∙ overlaid memory (wordsOf bytes) fits in
-      let r = judged (loaded (versionIn bytes) (machineIn bytes) (wordsOf bytes)) memory′ (outcome Accepted e) w in
-      let n≡ : n ≡ length (wordsOf bytes) = c ∙ sym l in
+  pub read-carried : (memory′ : List ℕ) (n : ℕ) (m : Machine) → Accepted ≡ imageVerdict bytes (length memory) → n ≡ imageCount bytes → m ≡ imageMachine bytes
+      → memory′ ≡ sets memory 0 (imageMemory (fieldsFor n) n (drop 53 bytes)) → Reads bytes memory memory′ (record { answer = ReadAnswer.Loaded n; machine = m })
+  read-carried memory′ n m e c p q =
+      let M : ℕ = imageCount bytes in
+      let l : length (imageWords bytes) ≡ M = length-image-memory (fieldsFor M) M (drop 53 bytes) (fields-enough M) in
+      let fits : length (imageWords bytes) ≤ length memory = omega (arith, image-accepted bytes (length memory) (sym e) .1) in
+      let w : memory′ ≡ outcomeWords (loaded (imageVersion bytes) (imageMachine bytes) (imageWords bytes)) memory =
+      q ∙ ap (λ (k : ℕ). sets memory 0 (imageMemory (fieldsFor k) k (drop 53 bytes))) c ∙ overlaid memory (imageWords bytes) fits in
+      let r = judged (loaded (imageVersion bytes) (imageMachine bytes) (imageWords bytes)) memory′ (outcome Accepted e) w in
+      let n≡ : n ≡ length (imageWords bytes) = c ∙ sym l in
       record {
         result = (λ i. record { answer = ReadAnswer.Loaded (n≡ i); machine = p i }) ∙ r .result;
         words = r .words;

@@ -1,5 +1,4 @@
-pub mod Places
-pub mod Headers
-pub mod Turns
-pub mod Passes
-pub mod Answers
+mod Head
+mod Turns
+mod Passes
+mod Answers

@@ -13,20 +13,20 @@ use Rattle.model.specs.Refusals.{demand, _then_}
 use Rattle.model.proofs.Verdicts.{then-assoc}
 use Rattle.image.specs.Bytes.{number, wordsIn}
 use Rattle.image.specs.Format.{Field, versionField, registersField, flagsField, countField, wordsField, endField, wordsPerField, fieldsFor, spanOf}
-use Rattle.image.specs.Reading.{Outcome, loaded, _▷_, fieldVerdict, readField, readMemory, readOf, machineOf}
-use Rattle.image.proofs.BytesLaws.{length-words}
+use Rattle.image.specs.Reading.{Outcome, loaded, _▷_, fieldVerdict, readField, readMemory, readOf, machineFrom}
+use Rattle.image.proofs.Bytes.{length-words}
 use Rattle.image.proofs.Outcomes.{joined}
-use Rattle.image.proofs.MemoryLaws.{fields-enough}
+use Rattle.image.proofs.Memories.{fields-enough}
+use Rattle.image.proofs.Places.{words-take, machine-take}
 use Rattle.image.proofs.Stages.{endFrom, memoryFrom, countFrom, flagsFrom, registersFrom, in-stages}
-use Rattle.image_reader.specs.Layout.{countIn, machineIn, memoryIn, headVerdict, memoryVerdict, endVerdict, tailVerdict, imageVerdict}
-use Rattle.image_reader.proofs.Places.{words-take, machine-take}
+use Rattle.image_reader.specs.Passes.{imageCount, imageMachine, imageMemory, headVerdict, memoryVerdict, endVerdict, tailVerdict, imageVerdict}
 
 -- the version and the words of an image, by place
-abbrev pub versionIn : List ℕ → ℕ
-versionIn bytes = number (take 1 (drop 3 bytes))
+abbrev pub imageVersion : List ℕ → ℕ
+imageVersion bytes = number (take 1 (drop 3 bytes))
 
-abbrev pub wordsOf : List ℕ → List ℕ
-wordsOf bytes = memoryIn (fieldsFor (countIn bytes)) (countIn bytes) (drop 53 bytes)
+abbrev pub imageWords : List ℕ → List ℕ
+imageWords bytes = imageMemory (fieldsFor (imageCount bytes)) (imageCount bytes) (drop 53 bytes)
 
 -- a field that starts at a place, and what follows it
 read-at : (f : Field) (at : ℕ) (bytes : List ℕ) (next : List ℕ → List ℕ → Outcome) (w : Verdict) (o : Outcome)
@@ -39,9 +39,9 @@ read-at f at bytes next w o e =
 
 -- ---- the memory and the end
 
-memory-passes : (n words : ℕ) (bytes : List ℕ) (next : List ℕ → List ℕ → Outcome) → words ≤ 1024 * n
-    → readMemory n words bytes next ≡ (memoryVerdict n words bytes ▷ next (memoryIn n words bytes) (drop (4 * words + 3 * n) bytes))
-unfolding readMemory memoryVerdict memoryIn readField
+memory-passes : (n words : ℕ) (bytes : List ℕ) (next : List ℕ → List ℕ → Outcome) → words ≤ wordsPerField * n
+    → readMemory n words bytes next ≡ (memoryVerdict n words bytes ▷ next (imageMemory n words bytes) (drop (4 * words + 3 * n) bytes))
+unfolding readMemory memoryVerdict imageMemory readField
 memory-passes zero words bytes next h = let e : 4 * words + 0 ≡ 0 = omega arith in ap (λ (k : ℕ). next [] (drop k bytes)) (sym e)
 memory-passes (suc n) words bytes next h =
     let k : ℕ = min wordsPerField words in
@@ -50,24 +50,24 @@ memory-passes (suc n) words bytes next h =
     let sum : 3 + 4 * k + (4 * left + 3 * n) ≡ 4 * words + 3 * suc n = omega arith in
     joined (fieldVerdict (wordsField k) bytes) (memoryVerdict n left rest) _
     (memory-passes n left rest (λ (more end : List ℕ). next (wordsIn k (take (4 * k) (drop 3 bytes)) ++ more) end) (omega arith)
-    ∙ ap₂ (λ (x y : List ℕ). memoryVerdict n left rest ▷ next (x ++ memoryIn n left rest) y)
+    ∙ ap₂ (λ (x y : List ℕ). memoryVerdict n left rest ▷ next (x ++ imageMemory n left rest) y)
     (words-take k (drop 3 bytes))
     (drop-drop (4 * left + 3 * n) (3 + 4 * k) bytes ∙ ap (λ (x : ℕ). drop x bytes) sum))
 
-pub length-memory-in : (n words : ℕ) (bytes : List ℕ) → words ≤ 1024 * n → length (memoryIn n words bytes) ≡ words
-unfolding memoryIn
-length-memory-in zero words bytes h = omega arith
-length-memory-in (suc n) words bytes h =
+pub length-image-memory : (n words : ℕ) (bytes : List ℕ) → words ≤ wordsPerField * n → length (imageMemory n words bytes) ≡ words
+unfolding imageMemory
+length-image-memory zero words bytes h = omega arith
+length-image-memory (suc n) words bytes h =
     let k : ℕ = min wordsPerField words in
-    length-append (wordsIn k (drop 3 bytes)) (memoryIn n (words - wordsPerField) (drop (3 + 4 * k) bytes))
-    ∙ ap₂ (λ (x y : ℕ). x + y) (length-words k (drop 3 bytes)) (length-memory-in n (words - wordsPerField) (drop (3 + 4 * k) bytes) (omega arith))
+    length-append (wordsIn k (drop 3 bytes)) (imageMemory n (words - wordsPerField) (drop (3 + 4 * k) bytes))
+    ∙ ap₂ (λ (x y : ℕ). x + y) (length-words k (drop 3 bytes)) (length-image-memory n (words - wordsPerField) (drop (3 + 4 * k) bytes) (omega arith))
     ∙ omega arith
 
 end-passes : (room : ℕ) (version registers flags memory bytes : List ℕ)
-    → endFrom room version registers flags memory bytes ≡ (endVerdict bytes ▷ loaded (number version) (machineOf registers flags) memory)
+    → endFrom room version registers flags memory bytes ≡ (endVerdict bytes ▷ loaded (number version) (machineFrom registers flags) memory)
 unfolding endVerdict readField
 end-passes room version registers flags memory bytes =
-    joined (fieldVerdict endField bytes) (demand (eqb (length (drop 3 bytes)) 0) TrailingBytes) (loaded (number version) (machineOf registers flags) memory) refl
+    joined (fieldVerdict endField bytes) (demand (eqb (length (drop 3 bytes)) 0) TrailingBytes) (loaded (number version) (machineFrom registers flags) memory) refl
 
 -- ---- the whole
 
@@ -76,7 +76,7 @@ regroup u v w x y = then-assoc u (v then w then x) y ∙ ap (λ (z : Verdict). u
 
 module _ (bytes : List ℕ) (room : ℕ) where
   abbrev all : Outcome
-  all = loaded (versionIn bytes) (machineIn bytes) (wordsOf bytes)
+  all = loaded (imageVersion bytes) (imageMachine bytes) (imageWords bytes)
 
   abbrev version : List ℕ
   version = take 1 (drop 3 bytes)
@@ -88,17 +88,17 @@ module _ (bytes : List ℕ) (room : ℕ) where
   flags = take 4 (drop 42 bytes)
 
   abbrev tail : Verdict
-  tail = tailVerdict (countIn bytes) 53 bytes
+  tail = tailVerdict (imageCount bytes) 53 bytes
 
   tail-passes : memoryFrom room version registers flags (take 4 (drop 49 bytes)) (drop 53 bytes) ≡ (tail ▷ all)
   unfolding tailVerdict
   tail-passes =
-      let M : ℕ = countIn bytes in
+      let M : ℕ = imageCount bytes in
       let e : Verdict = endVerdict (drop (53 + spanOf M) bytes) in
       memory-passes (fieldsFor M) M (drop 53 bytes) (endFrom room version registers flags) (fields-enough M)
       ∙ joined (memoryVerdict (fieldsFor M) M (drop 53 bytes)) e all
-      (end-passes room version registers flags (wordsOf bytes) (drop (spanOf M) (drop 53 bytes))
-      ∙ ap₂ (λ (x : List ℕ) (m : Machine). endVerdict x ▷ loaded (versionIn bytes) m (wordsOf bytes)) (drop-drop (spanOf M) 53 bytes) (machine-take (drop 42 bytes) (drop 7 bytes)))
+      (end-passes room version registers flags (imageWords bytes) (drop (spanOf M) (drop 53 bytes))
+      ∙ ap₂ (λ (x : List ℕ) (m : Machine). endVerdict x ▷ loaded (imageVersion bytes) m (imageWords bytes)) (drop-drop (spanOf M) 53 bytes) (machine-take (drop 42 bytes) (drop 7 bytes)))
 
   pub passes : readOf bytes room ≡ (imageVerdict bytes room ▷ all)
   unfolding headVerdict

@@ -17,9 +17,9 @@ use Rattle.model.proofs.Verdicts.{then-assoc}
 use Rattle.image.specs.Bytes.{wordsIn}
 use Rattle.image.specs.Format.{wordsField, endField, wordsPerField, fieldsFor, spanOf}
 use Rattle.image.specs.Reading.{headerVerdict, fieldVerdict}
-use Rattle.image.proofs.MemoryLaws.{one-field-less, span-step}
-use Rattle.image_reader.specs.Layout.{memoryIn, memoryVerdict, endVerdict, tailVerdict}
-use Rattle.image_reader.proofs.Headers.{without-rule, nothing-follows}
+use Rattle.image.proofs.Headers.{without-rule, nothing-follows}
+use Rattle.image.proofs.Memories.{one-field-less, span-step}
+use Rattle.image_reader.specs.Passes.{imageMemory, memoryVerdict, endVerdict, tailVerdict}
 
 module _ (left at count : ℕ) (bytes : List ℕ) (h : 0 < left) (e : count ≡ min wordsPerField left) where
   fields : fieldsFor left ≡ suc (fieldsFor (left - count))
@@ -55,12 +55,12 @@ module _ (left at count : ℕ) (bytes : List ℕ) (h : 0 < left) (e : count ≡ 
       → tailVerdict (left - count) (at + 3 + 4 * count) bytes ≡ whole
   tail-goes q f e = tail-by (sym q ∙ f) e
 
-  pub memory-step : memoryIn (fieldsFor left) left (drop at bytes)
-      ≡ wordsIn count (drop (at + 3) bytes) ++ memoryIn (fieldsFor (left - count)) (left - count) (drop (at + 3 + 4 * count) bytes)
-  unfolding memoryIn
+  pub memory-step : imageMemory (fieldsFor left) left (drop at bytes)
+      ≡ wordsIn count (drop (at + 3) bytes) ++ imageMemory (fieldsFor (left - count)) (left - count) (drop (at + 3 + 4 * count) bytes)
+  unfolding imageMemory
   memory-step =
-      ap (λ (n : ℕ). memoryIn n left (drop at bytes)) fields
-      ∙ (λ i. wordsIn (sym e i) (drop-drop 3 at bytes i) ++ memoryIn (fieldsFor (left - count)) (fewer i) (rest i))
+      ap (λ (n : ℕ). imageMemory n left (drop at bytes)) fields
+      ∙ (λ i. wordsIn (sym e i) (drop-drop 3 at bytes i) ++ imageMemory (fieldsFor (left - count)) (fewer i) (rest i))
 
 -- no words are left: what the code tests of the end
 pub tail-end : (left at : ℕ) (bytes : List ℕ) {header last both whole : Verdict} → left ≡ 0 → both ≡ (header then last) → header ≡ headerVerdict 0xFF 0 (drop at bytes)

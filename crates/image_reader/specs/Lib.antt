@@ -1,1 +1,1 @@
-pub mod Layout
+pub mod Passes

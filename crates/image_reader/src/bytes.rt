@@ -4,7 +4,7 @@ ghost use Prim.Native.Nat.{_+_, _*_, _^_, _≤_, _<_};
 ghost use lib.ListN.{length, take, drop};
 ghost use lib.Seq.{sets};
 ghost use Rattle.image.specs.Bytes.{number, wordsIn};
-ghost use Rattle.image_reader.specs.Layout.{ByteAt, PairAt};
+ghost use Rattle.image_reader.specs.Passes.{ByteAt, PairAt};
 
 fn byte_in(bytes: &[u8], at: usize) -> u32
     requires { ⌜ at < length (now bytes) ⌝ }

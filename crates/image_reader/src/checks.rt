@@ -13,7 +13,7 @@ ghost use lib.ListN.{drop};
 ghost use Rattle.model.specs.Refusals.{mostWords};
 ghost use Rattle.image.specs.Format.{versionField, flagsField, countField};
 ghost use Rattle.image.specs.Reading.{headerVerdict, fieldVerdict};
-ghost use Rattle.image_reader.specs.Layout.{countIn, headVerdict, tailVerdict, imageVerdict};
+ghost use Rattle.image_reader.specs.Passes.{imageCount, headVerdict, tailVerdict, imageVerdict};
 
 // A field from a place on, but for its value: header cut, tag, length, value cut.
 fn header_verdict(bytes: &[u8], at: usize, tag: u32, due: u32) -> Verdict
@@ -57,7 +57,7 @@ fn flags_verdict(bytes: &[u8]) -> Verdict
 }
 
 pub fn word_count(bytes: &[u8]) -> u32
-    ensures { λ r. ⌜ r ≡ countIn (now (bytes .entry)) ⌝ }
+    ensures { λ r. ⌜ r ≡ imageCount (now (bytes .entry)) ⌝ }
 {
     pair_at(bytes, 49) + 65_536 * pair_at(bytes, 51)
 }

@@ -3,8 +3,13 @@ mod bytes;
 mod checks;
 mod loads;
 
+use checks::image_verdict;
+use checks::word_count;
 use image::ReadAnswer;
 use image::ReadResult;
+use loads::cleared_machine;
+use loads::load_memory;
+use loads::machine_at;
 use model::Verdict;
 ghost use Rattle.image.specs.Calls.{Reads};
 
@@ -12,17 +17,17 @@ ghost use Rattle.image.specs.Calls.{Reads};
 pub fn read(bytes: &[u8], memory: &mut [u32]) -> ReadResult
     ensures { λ r. ⌜ Reads (now (bytes .entry)) (now (memory .entry)) (now (memory .exit)) r ⌝ }
 {
-    match checks::image_verdict(bytes, memory.len()) {
+    match image_verdict(bytes, memory.len()) {
         Verdict::Refused(why) => ReadResult {
             answer: ReadAnswer::Refused(why),
-            machine: loads::cleared_machine(),
+            machine: cleared_machine(),
         },
         Verdict::Accepted => {
-            let words = checks::word_count(bytes);
-            loads::load_memory(bytes, memory, words as usize);
+            let words = word_count(bytes);
+            load_memory(bytes, memory, words as usize);
             ReadResult {
                 answer: ReadAnswer::Loaded(words),
-                machine: loads::machine_at(bytes),
+                machine: machine_at(bytes),
             }
         }
     }

@@ -10,7 +10,7 @@ ghost use lib.ListN.{length, drop};
 ghost use lib.Seq.{sets};
 ghost use Rattle.image.specs.Format.{fieldsFor, spanOf};
 ghost use Rattle.image.specs.Calls.{clearedMachine};
-ghost use Rattle.image_reader.specs.Layout.{machineIn, memoryIn};
+ghost use Rattle.image_reader.specs.Passes.{imageMachine, imageMemory};
 
 pub fn cleared_machine() -> Machine
     ensures { λ r. ⌜ r ≡ clearedMachine ⌝ }
@@ -29,7 +29,7 @@ pub fn cleared_machine() -> Machine
 
 pub fn machine_at(bytes: &[u8]) -> Machine
     requires { ⌜ 39 ≤ length (now bytes) ⌝ }
-    ensures { λ r. ⌜ r ≡ machineIn (now (bytes .entry)) ⌝ }
+    ensures { λ r. ⌜ r ≡ imageMachine (now (bytes .entry)) ⌝ }
 {
     let mut regs = [0u32; 8];
     get_words(bytes, 7, &mut regs, 0, 8);
@@ -44,7 +44,7 @@ pub fn machine_at(bytes: &[u8]) -> Machine
 
 pub fn load_memory(bytes: &[u8], memory: &mut [u32], words: usize)
     requires { ⌜ (53 + spanOf words ≤ length (now bytes)) × (words ≤ length (now memory)) ⌝ }
-    ensures { λ _. ⌜ now (memory .exit) ≡ sets (now (memory .entry)) 0 (memoryIn (fieldsFor words) words (drop 53 (now (bytes .entry)))) ⌝ }
+    ensures { λ _. ⌜ now (memory .exit) ≡ sets (now (memory .entry)) 0 (imageMemory (fieldsFor words) words (drop 53 (now (bytes .entry)))) ⌝ }
 {
     let mut at = 53;
     let mut from = 0;

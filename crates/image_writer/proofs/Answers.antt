@@ -12,11 +12,12 @@ use Rattle.model.specs.declared.Refusal.{Refusal}
 use Rattle.model.specs.declared.Refusal.the-variants.{ShortOutput}
 use Rattle.model.specs.declared.Verdict.{Verdict}
 use Rattle.model.specs.declared.Verdict.the-variants.{Accepted, Refused}
-use Rattle.model.specs.Refusals.{demand, _then_, memoryFits, verdictNumber}
+use Rattle.model.specs.Refusals.{verdictNumber, leftBy, demand, _then_, memoryFits}
+use Rattle.model.specs.Words.{overlay}
 use Rattle.model.proofs.Stores.{overlaid}
-use Rattle.image.specs.declared.WriteResult.{WriteResult}
+use Rattle.image.specs.declared.WriteAnswer.{WriteAnswer}
 use Rattle.image.specs.Format.{imageOf}
-use Rattle.image.specs.Calls.{writeVerdict, writeResult, writeBytes, writeNumber, verdictSize, writeSize, Writes}
+use Rattle.image.specs.Calls.{writeVerdict, writeResult, writeNumber, verdictSize, writeSize, writeReturned, writeBytes, Writes}
 
 module _ (memory : List ℕ) (machine : Machine) (out : List ℕ) where
   abbrev image : List ℕ
@@ -31,11 +32,12 @@ module _ (memory : List ℕ) (machine : Machine) (out : List ℕ) where
   sized (Refused why) = refl
 
   -- the contract, from the verdict and what it asks of the output
-  judged : (v : Verdict) (out′ : List ℕ) → v ≡ writeVerdict memory image out → out′ ≡ writeBytes v image out → Writes memory machine out out′ (writeResult v image)
+  judged : (v : Verdict) (out′ : List ℕ) → v ≡ writeVerdict memory image out → out′ ≡ leftBy v (overlay image out) out → Writes memory machine out out′ (writeResult v image)
+  unfolding writeReturned writeBytes
   judged v out′ e o =
       record {
         result = ap (λ (x : Verdict). writeResult x image) e;
-        bytes = o ∙ ap (λ (x : Verdict). writeBytes x image out) e;
+        bytes = o ∙ ap (λ (x : Verdict). leftBy x (overlay image out) out) e;
         number = numbered v ∙ ap verdictNumber e;
         size = sized v ∙ ap (λ (x : Verdict). verdictSize x image) e;
       }
@@ -45,14 +47,14 @@ module _ (memory : List ℕ) (machine : Machine) (out : List ℕ) where
   unfolding writeVerdict
   tests v t p q = ap₂ (λ (x : Verdict) (b : Bool). x then demand b ShortOutput) p (sym q)
 
-  pub refused-memory : {why : Refusal} → Refused why ≡ memoryFits memory → Writes memory machine out out (WriteResult.Refused why)
-  refused-memory {why} e = judged (Refused why) out (tests (Refused why) _ e refl) refl
+  pub write-refused : {why : Refusal} → Refused why ≡ memoryFits memory → Writes memory machine out out (WriteAnswer.Refused why)
+  write-refused {why} e = judged (Refused why) out (tests (Refused why) _ e refl) refl
 
   module _ (fits : Accepted ≡ memoryFits memory) where
-    pub short-output : length out < length image → Writes memory machine out out (WriteResult.Refused ShortOutput)
-    short-output s = judged (Refused ShortOutput) out (tests Accepted false fits (lt-leb _ _ s)) refl
+    pub write-no-room : length out < length image → Writes memory machine out out (WriteAnswer.Refused ShortOutput)
+    write-no-room s = judged (Refused ShortOutput) out (tests Accepted false fits (lt-leb _ _ s)) refl
 
-    pub written : (out′ : List ℕ) (n : ℕ) → length image ≤ length out → out′ ≡ sets out 0 image → n ≡ length image → Writes memory machine out out′ (WriteResult.Written n)
-    written out′ n s p e =
+    pub write-carried : (out′ : List ℕ) (n : ℕ) → length image ≤ length out → out′ ≡ sets out 0 image → n ≡ length image → Writes memory machine out out′ (WriteAnswer.Written n)
+    write-carried out′ n s p e =
         let r = judged Accepted out′ (tests Accepted true fits (le-leb _ _ s)) (p ∙ overlaid out image s) in
-        record { result = ap WriteResult.Written e ∙ r .result; bytes = r .bytes; number = r .number; size = e ∙ r .size }
+        record { result = ap WriteAnswer.Written e ∙ r .result; bytes = r .bytes; number = r .number; size = e ∙ r .size }

@@ -1,2 +1,2 @@
-pub mod Puts
-pub mod Answers
+mod Puts
+mod Answers

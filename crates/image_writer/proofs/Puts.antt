@@ -1,28 +1,18 @@
--- Words and fields stored one after the other.
-use Prim.Native.Nat.{ℕ, suc, _+_, _*_, _-_, _≤_, _<_, min}
-use mathlib.Core.Path.{_≡_, refl, sym, ap, ap₂, _∙_}
+-- Fields stored one after the other.
+use Prim.Native.Nat.{ℕ, _+_, _*_}
+use mathlib.Core.Path.{_≡_, refl, sym, ap, _∙_}
 use mathlib.Core.List.{List, [], _∷_, _++_}
-use native.Mathlib.Decide.{decLe}
-use native.Mathlib.Numerals.{add-one}
 use native.Mathlib.Omega.{arith}
-use lib.ListN.{length, take, drop, getD, length-drop, drop-of-length-le}
-use lib.Seq.{sets, take-all, length-take-le, drop-cons, drop-drop}
+use lib.ListN.{length, take}
+use lib.Seq.{sets, take-all}
 use Rattle.model.specs.declared.Machine.{Machine}
 use Rattle.model.specs.Packed.{flagNumbers}
 use Rattle.model.proofs.Stores.{store-step}
 use Rattle.image.specs.Bytes.{bytesOf, wordBytes}
-use Rattle.image.specs.Format.{Field, fieldBytes, versionField, registersField, flagsField, countField, wordsField, endField, wordsPerField, fieldsFor, spanOf, memoryFields, imageOf}
-use Rattle.image.proofs.BytesLaws.{length-bytes, length-word-bytes}
-use Rattle.image.proofs.FieldLaws.{length-field}
-use Rattle.image.proofs.MemoryLaws.{fields-enough, one-field-less, length-memory}
-
--- the next of some words
-pub next-word : (words : List ℕ) (from from′ n n′ : ℕ) → from < length words → from′ ≡ from + 1 → n ≡ n′ + 1
-    → wordBytes (take n (drop from words)) ≡ bytesOf 4 (getD words from 0) ++ wordBytes (take n′ (drop from′ words))
-unfolding wordBytes
-next-word words from from′ n n′ h p q =
-    ap₂ (λ (k : ℕ) (l : List ℕ). wordBytes (take k l)) (q ∙ add-one n′) (drop-cons words from 0 h)
-    ∙ ap (λ (k : ℕ). bytesOf 4 (getD words from 0) ++ wordBytes (take n′ (drop k words))) (sym (add-one from) ∙ sym p)
+use Rattle.image.specs.Format.{Field, fieldBytes, versionField, registersField, flagsField, countField, endField, fieldsFor, spanOf, memoryFields, imageOf}
+use Rattle.image.proofs.Bytes.{length-bytes, length-word-bytes}
+use Rattle.image.proofs.Fields.{length-field}
+use Rattle.image.proofs.Memories.{fields-enough, length-memory}
 
 -- a header and then a value are a field
 pub field-put : (f : Field) (out out′ out″ : List ℕ) (at n : ℕ) (value : List ℕ) → out′ ≡ sets out at (f .tag ∷ bytesOf 2 n) → out″ ≡ sets out′ (at + 3) value
@@ -39,36 +29,6 @@ pub registers-put : (out out′ out″ : List ℕ) (at : ℕ) (regs : List ℕ) 
 registers-put out out′ out″ at regs l p q =
     field-put registersField out out′ out″ at 32 (wordBytes regs) p (q ∙ ap (λ (w : List ℕ). sets out′ (at + 3) (wordBytes w)) (take-all 8 regs (omega arith)))
     (ap (λ (n : ℕ). 4 * n) (sym l) ∙ sym (length-word-bytes regs))
-
--- the first n of a list, and what is left without them, where there may be fewer
-least : (n k : ℕ) (l : List ℕ) → k ≡ min n (length l) → (take n l ≡ take k l) × (drop n l ≡ drop k l)
-least n k l e = go (decLe n (length l))
-  where
-    go : Dec (n ≤ length l) → (take n l ≡ take k l) × (drop n l ≡ drop k l)
-    go (yes h) = let q : n ≡ k = omega arith in (ap (λ (x : ℕ). take x l) q, ap (λ (x : ℕ). drop x l) q)
-    go (no h) = (take-all n l (omega arith) ∙ sym (take-all k l (omega arith)), drop-of-length-le l {i = n} (omega arith) ∙ sym (drop-of-length-le l {i = k} (omega arith)))
-
--- the next field of words
-pub next-field : (memory : List ℕ) (from count : ℕ) → from < length memory → count ≡ min wordsPerField (length memory - from)
-    → memoryFields (fieldsFor (length memory - from)) (drop from memory)
-    ≡ fieldBytes (wordsField count) (wordBytes (take count (drop from memory))) ++ memoryFields (fieldsFor (length memory - (from + count))) (drop (from + count) memory)
-unfolding memoryFields fieldBytes
-next-field memory from count h e =
-    let n : ℕ = length memory - from in
-    let n′ : ℕ = length memory - (from + count) in
-    let q : n - count ≡ n′ = omega arith in
-    let one-less : fieldsFor n ≡ suc (fieldsFor n′) = one-field-less n count (omega arith) e ∙ ap (λ (x : ℕ). suc (fieldsFor x)) q in
-    let k : count ≡ min wordsPerField (length (drop from memory)) = e ∙ ap (min wordsPerField) (sym (length-drop from memory)) in
-    let parts = least wordsPerField count (drop from memory) k in
-    ap (λ (x : ℕ). memoryFields x (drop from memory)) one-less
-    ∙ ap₂ (λ (x y : List ℕ). fieldBytes (wordsField count) (wordBytes x) ++ memoryFields (fieldsFor n′) y) (parts .0) (parts .1 ∙ drop-drop count from memory)
-
-pub length-word-field : (memory : List ℕ) (from count : ℕ) → from + count ≤ length memory
-    → length (fieldBytes (wordsField count) (wordBytes (take count (drop from memory)))) ≡ 3 + 4 * count
-length-word-field memory from count h =
-    let words : List ℕ = take count (drop from memory) in
-    let l : length words ≡ count = length-take-le count (drop from memory) (omega (arith, length-drop from memory)) in
-    omega (arith, length-field (wordsField count) (wordBytes words), length-word-bytes words)
 
 version-field : (version : ℕ) → _≡_ {A = List ℕ} (1 ∷ 1 ∷ 0 ∷ version ∷ []) (fieldBytes versionField (version ∷ []))
 unfolding fieldBytes bytesOf

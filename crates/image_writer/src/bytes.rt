@@ -45,8 +45,8 @@ pub fn put_header(out: &mut [u8], at: usize, tag: u8, size: u32)
 }
 
 // `count` words, those from `from` on.
-pub fn put_words(words: &[u32], from: usize, count: usize, out: &mut [u8], at: usize)
-    requires { ⌜ (from + count ≤ length (now words)) × (at + 4 * count ≤ length (now out)) ⌝ }
+pub fn put_words(out: &mut [u8], at: usize, words: &[u32], from: usize, count: usize)
+    requires { ⌜ (at + 4 * count ≤ length (now out)) × (from + count ≤ length (now words)) ⌝ }
     ensures { λ _. ⌜ now (out .exit) ≡ sets (now (out .entry)) at (wordBytes (take count (drop from (now (words .entry))))) ⌝ }
 {
     let mut i = 0;

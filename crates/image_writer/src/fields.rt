@@ -3,6 +3,7 @@ use super::bytes::put_four;
 use super::bytes::put_header;
 use super::bytes::put_word;
 use super::bytes::put_words;
+use image::WORDS_PER_FIELD;
 use image::words_in_field;
 use model::Flags;
 use model::Machine;
@@ -19,7 +20,7 @@ pub fn image_size(words: usize) -> usize
     requires { ⌜ words ≤ mostWords ⌝ }
     ensures { λ r. ⌜ r ≡ 56 + spanOf words ⌝ }
 {
-    56 + 4 * words + 3 * ((words + 1023) / 1024)
+    56 + 4 * words + 3 * ((words + (WORDS_PER_FIELD - 1)) / WORDS_PER_FIELD)
 }
 
 fn put_registers(out: &mut [u8], at: usize, regs: [u32; 8])
@@ -27,7 +28,7 @@ fn put_registers(out: &mut [u8], at: usize, regs: [u32; 8])
     ensures { λ _. ⌜ now (out .exit) ≡ sets (now (out .entry)) at (fieldBytes registersField (wordBytes regs)) ⌝ }
 {
     put_header(out, at, 2, 32);
-    put_words(&regs, 0, 8, out, at + 3);
+    put_words(out, at + 3, &regs, 0, 8);
 }
 
 fn put_flags(out: &mut [u8], at: usize, flags: Flags)
@@ -54,16 +55,16 @@ fn put_count(out: &mut [u8], at: usize, words: u32)
 }
 
 // One tag-05 field.
-fn put_word_field(memory: &[u32], from: usize, count: usize, out: &mut [u8], at: usize)
-    requires { ⌜ (from + count ≤ length (now memory)) × (count ≤ wordsPerField) × (at + 3 + 4 * count ≤ length (now out)) ⌝ }
+fn put_word_field(out: &mut [u8], at: usize, memory: &[u32], from: usize, count: usize)
+    requires { ⌜ (at + 3 + 4 * count ≤ length (now out)) × (from + count ≤ length (now memory)) × (count ≤ wordsPerField) ⌝ }
     ensures { λ _. ⌜ now (out .exit) ≡ sets (now (out .entry)) at (fieldBytes (wordsField count) (wordBytes (take count (drop from (now (memory .entry)))))) ⌝ }
 {
     put_header(out, at, 5, (4 * count) as u32);
-    put_words(memory, from, count, out, at + 3);
+    put_words(out, at + 3, memory, from, count);
 }
 
 // All tag-05 fields.
-fn put_memory(memory: &[u32], out: &mut [u8], start: usize)
+fn put_memory(out: &mut [u8], start: usize, memory: &[u32])
     requires { ⌜ start + spanOf (length (now memory)) ≤ length (now out) ⌝ }
     ensures { λ _. ⌜ now (out .exit) ≡ sets (now (out .entry)) start (memoryFields (fieldsFor (length (now (memory .entry)))) (now (memory .entry))) ⌝ }
 {
@@ -71,7 +72,7 @@ fn put_memory(memory: &[u32], out: &mut [u8], start: usize)
     let mut from = 0;
     while from < memory.len() {
         let count = words_in_field(memory.len() - from);
-        put_word_field(memory, from, count, out, at);
+        put_word_field(out, at, memory, from, count);
         at = at + 3 + 4 * count;
         from = from + count;
     }
@@ -89,6 +90,6 @@ pub fn put_image(memory: &[u32], machine: Machine, out: &mut [u8])
     put_registers(out, 4, regs);
     put_flags(out, 39, flags);
     put_count(out, 46, words as u32);
-    put_memory(memory, out, 53);
+    put_memory(out, 53, memory);
     put_header(out, end, 255, 0);
 }

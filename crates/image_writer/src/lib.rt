@@ -2,7 +2,9 @@
 mod bytes;
 mod fields;
 
-use image::WriteResult;
+use fields::image_size;
+use fields::put_image;
+use image::WriteAnswer;
 use model::Machine;
 use model::Refusal;
 use model::Verdict;
@@ -10,18 +12,18 @@ use refusals::memory_fits;
 ghost use Rattle.image.specs.Calls.{Writes};
 
 // Writes the version 1 image of a machine and its memory to the front of `out`.
-pub fn write(memory: &[u32], machine: Machine, out: &mut [u8]) -> WriteResult
+pub fn write(memory: &[u32], machine: Machine, out: &mut [u8]) -> WriteAnswer
     ensures { λ r. ⌜ Writes (now (memory .entry)) machine (now (out .entry)) (now (out .exit)) r ⌝ }
 {
     match memory_fits(memory) {
-        Verdict::Refused(why) => WriteResult::Refused(why),
+        Verdict::Refused(why) => WriteAnswer::Refused(why),
         Verdict::Accepted => {
-            let size = fields::image_size(memory.len());
+            let size = image_size(memory.len());
             if out.len() < size {
-                return WriteResult::Refused(Refusal::ShortOutput);
+                return WriteAnswer::Refused(Refusal::ShortOutput);
             }
-            fields::put_image(memory, machine, out);
-            WriteResult::Written(size)
+            put_image(memory, machine, out);
+            WriteAnswer::Written(size)
         }
     }
 }

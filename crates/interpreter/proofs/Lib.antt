@@ -1,3 +1,3 @@
-pub mod ClockLaws
-pub mod RunLaws
-pub mod CallLaws
+mod Spending
+mod Turns
+pub mod Answers

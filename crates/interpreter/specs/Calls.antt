@@ -9,10 +9,10 @@ use Rattle.model.specs.declared.Ending.{Ending}
 use Rattle.model.specs.declared.Ending.the-variants.{Finished, Outside}
 use Rattle.model.specs.declared.Verdict.{Verdict}
 use Rattle.model.specs.declared.Verdict.the-variants.{Accepted, Refused}
-use Rattle.model.specs.Refusals.{refusalNumber, verdictNumber, runVerdict, fileVerdict}
+use Rattle.model.specs.Refusals.{refusalNumber, verdictNumber, leftBy, runVerdict, fileVerdict}
 use Rattle.model.specs.Interpreter.{Run, begin, interpret}
 use Rattle.model.specs.Words.{overlay}
-use Rattle.model.specs.Journal.{Pair, journalPairs, journalWords}
+use Rattle.model.specs.Journal.{journalPairs, journalWords}
 use Rattle.interpreter.specs.declared.RunAnswer.{RunAnswer}
 use Rattle.interpreter.specs.declared.RunResult.{RunResult}
 use Rattle.interpreter.specs.declared.FileAnswer.{FileAnswer}
@@ -32,20 +32,23 @@ runResult Accepted start r =
 runResult (Refused why) start r =
     record { answer = RunAnswer.Refused why; machine = start; ran = 0; clocks = 0 }
 
-abbrev pub runMemory : Verdict → List ℕ → Run → List ℕ
-runMemory Accepted memory r = r .memory
-runMemory (Refused why) memory r = memory
-
 -- document 01's number of an answer; 0 where the call was carried out
 abbrev pub runNumber : RunAnswer → ℕ
 runNumber RunAnswer.Finished = 0
 runNumber RunAnswer.Outside = 0
 runNumber (RunAnswer.Refused why) = refusalNumber why
 
+-- what a run of so many instructions returns, and the memory that it leaves
+unfoldable pub runReturned : (memory waits : List ℕ) → Machine → (count : ℕ) → RunResult
+runReturned memory waits start count = runResult (runVerdict memory waits) start (interpret waits count (begin start memory 0))
+
+unfoldable pub runWords : (memory waits : List ℕ) → Machine → (count : ℕ) → List ℕ
+runWords memory waits start count = leftBy (runVerdict memory waits) (interpret waits count (begin start memory 0) .memory) memory
+
 -- what a run promises: its result, the memory's words, and the number for why it was turned down
 pub record Runs (memory waits : List ℕ) (start : Machine) (count : ℕ) (memory′ : List ℕ) (r : RunResult) : Type 0 where
-  pub result : r ≡ runResult (runVerdict memory waits) start (interpret waits count (begin start memory 0))
-  pub words : memory′ ≡ runMemory (runVerdict memory waits) memory (interpret waits count (begin start memory 0))
+  pub result : r ≡ runReturned memory waits start count
+  pub words : memory′ ≡ runWords memory waits start count
   pub number : runNumber (r .answer) ≡ verdictNumber (runVerdict memory waits)
 
 -- ---- the file run
@@ -61,29 +64,36 @@ fileResult Accepted start r pairs = fileEnd (r .ending) start r pairs
 fileResult (Refused why) start r pairs =
     record { answer = FileAnswer.Refused why; machine = start; ran = 0; pairs = 0 }
 
+-- "undone" leaves the memory as it was
 abbrev pub memoryEnd : Ending → List ℕ → Run → List ℕ
 memoryEnd Finished memory r = r .memory
 memoryEnd Outside memory r = memory
-
-abbrev pub fileMemory : Verdict → List ℕ → Run → List ℕ
-fileMemory Accepted memory r = memoryEnd (r .ending) memory r
-fileMemory (Refused why) memory r = memory
-
--- the pairs over the journal's first places; the places that are not used stay
-abbrev pub fileJournal : Verdict → List ℕ → List Pair → List ℕ
-fileJournal Accepted journal pairs = overlay (journalWords pairs) journal
-fileJournal (Refused why) journal pairs = journal
 
 abbrev pub fileNumber : FileAnswer → ℕ
 fileNumber FileAnswer.Finished = 0
 fileNumber FileAnswer.Undone = 0
 fileNumber (FileAnswer.Refused why) = refusalNumber why
 
+-- what a file run of so many instructions returns, and the memory and the journal that it leaves
+unfoldable pub fileReturned : (memory journal : List ℕ) → Machine → (count : ℕ) → FileResult
+fileReturned memory journal start count =
+    fileResult (fileVerdict memory journal count) start (interpret [] count (begin start memory 0))
+    (length (journalPairs [] count (begin start memory 0)))
+
+unfoldable pub fileWords : (memory journal : List ℕ) → Machine → (count : ℕ) → List ℕ
+fileWords memory journal start count =
+    let r = interpret [] count (begin start memory 0) in
+    leftBy (fileVerdict memory journal count) (memoryEnd (r .ending) memory r) memory
+
+-- the pairs over the journal's first places; the places that are not used stay
+unfoldable pub filePlaces : (memory journal : List ℕ) → Machine → (count : ℕ) → List ℕ
+filePlaces memory journal start count =
+    let pairs = journalWords (journalPairs [] count (begin start memory 0)) in
+    leftBy (fileVerdict memory journal count) (overlay pairs journal) journal
+
 -- what a file run promises: its result, the memory's words, the journal's places, and the number for why it was turned down
 pub record FileRuns (memory journal : List ℕ) (start : Machine) (count : ℕ) (memory′ journal′ : List ℕ) (r : FileResult) : Type 0 where
-  pub result : r
-      ≡ fileResult (fileVerdict memory journal count) start (interpret [] count (begin start memory 0))
-      (length (journalPairs [] count (begin start memory 0)))
-  pub words : memory′ ≡ fileMemory (fileVerdict memory journal count) memory (interpret [] count (begin start memory 0))
-  pub places : journal′ ≡ fileJournal (fileVerdict memory journal count) journal (journalPairs [] count (begin start memory 0))
+  pub result : r ≡ fileReturned memory journal start count
+  pub words : memory′ ≡ fileWords memory journal start count
+  pub places : journal′ ≡ filePlaces memory journal start count
   pub number : fileNumber (r .answer) ≡ verdictNumber (fileVerdict memory journal count)

@@ -5,19 +5,19 @@ use mathlib.Core.List.{List}
 use Rattle.model.specs.declared.Operand.{Operand}
 use Rattle.model.specs.Operands.{inMemory}
 use Rattle.model.specs.Interpreter.{costOf, accessesOf}
-use Rattle.model.specs.Waits.{waitAt, nextWait, waitSum, positionAfter}
+use Rattle.model.specs.Waits.{waitAt, nextPosition, waitSum, positionAfter}
 use Rattle.interpreter.specs.declared.clocks.Spent.{Spent}
 
 -- one access more, and n accesses from position p after c clocks
 abbrev pub moreOf : List ℕ → Spent → Spent
-moreOf waits w = record { clocks = w .clocks + waitAt waits (w .position); position = nextWait waits (w .position) }
+moreOf waits w = record { clocks = w .clocks + waitAt waits (w .position); position = nextPosition waits (w .position) }
 
 abbrev pub walkedOf : List ℕ → (c p n : ℕ) → Spent
 walkedOf waits c p n = record { clocks = c + waitSum waits p n; position = positionAfter waits p n }
 
 -- one instruction more
-abbrev pub clockedOf : List ℕ → Spent → (oa ob : Operand) → Bool → Spent
-clockedOf waits w oa ob stored =
+abbrev pub spentOf : List ℕ → Spent → (oa ob : Operand) → Bool → Spent
+spentOf waits w oa ob stored =
     let memA = inMemory oa in
     let memB = inMemory ob in
     walkedOf waits (w .clocks + costOf memA memB stored) (w .position) (accessesOf memA memB stored)

@@ -1,3 +1,3 @@
 pub mod Clocks
-pub mod Runs
+pub mod Engine
 pub mod Calls

@@ -5,7 +5,7 @@ ghost use mathlib.Core.Path.{_≡_};
 ghost use mathlib.Core.Bool.{cond};
 ghost use Prim.Native.Nat.{_+_, _^_, _<_, _≤_};
 ghost use Rattle.model.specs.Interpreter.{costOf};
-ghost use Rattle.interpreter.specs.Clocks.{moreOf, clockedOf};
+ghost use Rattle.interpreter.specs.Clocks.{moreOf, spentOf};
 
 // Clocks so far, and the position in the wait list.
 pub struct Spent {
@@ -23,7 +23,7 @@ fn cost(a: bool, b: bool, stored: bool) -> u64
 // The wait of one access more.
 fn more(waits: &[u16], w: Spent) -> Spent
     requires { ⌜ w .clocks < 2 ^ 62 ⌝ }
-    ensures { λ r. ⌜ (r ≡ moreOf (now (waits .entry)) w) × (r .clocks < w .clocks + 65536) ⌝ }
+    ensures { λ r. ⌜ (r ≡ moreOf (now (waits .entry)) w) × (r .clocks < w .clocks + 65_536) ⌝ }
 {
     let position = w.position;
     if position < waits.len() {
@@ -37,7 +37,7 @@ fn more(waits: &[u16], w: Spent) -> Spent
 
 fn more_if(waits: &[u16], w: Spent, b: bool) -> Spent
     requires { ⌜ w .clocks < 2 ^ 62 ⌝ }
-    ensures { λ r. ⌜ (r ≡ cond b (moreOf (now (waits .entry)) w) w) × (r .clocks < w .clocks + 65536) ⌝ }
+    ensures { λ r. ⌜ (r ≡ cond b (moreOf (now (waits .entry)) w) w) × (r .clocks < w .clocks + 65_536) ⌝ }
 {
     if b {
         return more(waits, w);
@@ -48,7 +48,7 @@ fn more_if(waits: &[u16], w: Spent, b: bool) -> Spent
 // One instruction more: its cost, and the waits for its fetch, A, B and store to memory.
 pub fn clocked(waits: &[u16], w: Spent, oa: Operand, ob: Operand, stored: bool) -> Spent
     requires { ⌜ w .clocks < 2 ^ 61 ⌝ }
-    ensures { λ r. ⌜ r ≡ clockedOf (now (waits .entry)) w oa ob stored ⌝ }
+    ensures { λ r. ⌜ r ≡ spentOf (now (waits .entry)) w oa ob stored ⌝ }
 {
     let mem_a = in_memory(oa);
     let mem_b = in_memory(ob);

@@ -1,4 +1,5 @@
-// The loop that both kinds of run share. One loop with one call of the step, waits and journal in it: a second one would cost both their speed.
+// The loop that both kinds of run share. One loop with one call of the step, waits and journal in it: a second one would cost both their
+// speed.
 use super::clocks::Spent;
 use super::clocks::clocked;
 use effects::packed;
@@ -7,9 +8,9 @@ use model::Ending;
 use model::Machine;
 use step::step;
 ghost use mathlib.Core.Path.{_≡_};
+ghost use Rattle.model.specs.Interpreter.{machine};
 ghost use Rattle.model.specs.Packed.{flagsOf};
-ghost use Rattle.step.specs.Steps.{machine};
-ghost use Rattle.interpreter.specs.Runs.{endedAt, Ends};
+ghost use Rattle.interpreter.specs.Engine.{endedAt, EngineEnds};
 
 // A run at its end, with the number of its journal pairs.
 pub struct Ended {
@@ -42,7 +43,7 @@ pub fn engine(
     start: Machine,
     count: u32,
 ) -> Ended
-    ensures { λ r. ⌜ Ends (now (memory .entry)) (now (waits .entry)) (now (journal .entry)) start count (now (memory .exit)) (now (journal .exit)) r ⌝ }
+    ensures { λ r. ⌜ EngineEnds (now (memory .entry)) (now (waits .entry)) (now (journal .entry)) start count (now (memory .exit)) (now (journal .exit)) r ⌝ }
 {
     let mut regs = start.regs;
     let first = start.flags;

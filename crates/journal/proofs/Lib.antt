@@ -1,1 +1,1 @@
-pub mod JournalLaws
+pub mod Journals

@@ -1,1 +1,1 @@
-pub mod Journals
+pub mod Undo

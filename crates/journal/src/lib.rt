@@ -5,7 +5,7 @@ use operands::wide;
 ghost use mathlib.Core.Path.{_≡_};
 ghost use Prim.Native.Nat.{_+_, _^_, _<_};
 ghost use Rattle.model.specs.Words.{wordAt, storeWord};
-ghost use Rattle.journal.specs.Journals.{undone};
+ghost use Rattle.journal.specs.Undo.{undone};
 
 // Puts the former word of the pair at a journal's place back. Where the journal has the whole pair, one test serves for both of its words.
 fn put_back(memory: &mut [u32], journal: &[u32], at: usize)

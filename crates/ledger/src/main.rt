@@ -6,9 +6,14 @@ use ledger_text::report;
 use libc::STDIN_FILENO;
 use libc::STDOUT_FILENO;
 
+// The most bytes of input, and the words of memory.
+const MOST_INPUT: usize = 16_453;
+
+const MEMORY_WORDS: usize = 4_096;
+
 fn main() {
-    let mut input = [0u8; 16453];
-    let mut memory = [0u32; 4096];
+    let mut input = [0u8; MOST_INPUT];
+    let mut memory = [0u32; MEMORY_WORDS];
     let mut text = [0u8; LONGEST_TEXT];
     let size = io::read_full(STDIN_FILENO, &mut input);
     match report(&input[..size], &mut memory, &mut text) {

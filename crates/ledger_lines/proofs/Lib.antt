@@ -1,2 +1,2 @@
-pub mod LengthLaws
-pub mod Example
+pub mod Lengths
+mod Example

@@ -1,26 +1,21 @@
 -- The ledger's text as a list of bytes: what document 01, "The ledger program", has printed for an image.
 use Prim.Native.Nat.{ℕ, zero, suc, _-_}
-use mathlib.Core.List.{List, [], _∷_, _++_, map}
+use mathlib.Core.List.{List, [], _∷_, _++_}
 use Rattle.model.specs.declared.Flags.{Flags}
 use Rattle.model.specs.declared.Ending.{Ending}
 use Rattle.model.specs.declared.Ending.the-variants.{Finished, Outside}
 use Rattle.model.specs.declared.Refusal.{Refusal}
-use Rattle.model.specs.Packed.{flagNumbers}
 use Rattle.model.specs.Refusals.{refusalNumber}
 use Rattle.model.specs.Interpreter.{Run, begin, pc, instruction, interpret}
 use Rattle.image.specs.Reading.{Outcome, loaded, refused}
-use Rattle.text.specs.Text.{letters, space, lineFeed, digit, decimal, hexadecimal}
+use Rattle.text.specs.Text.{letters, space, lineFeed, decimal, hexadecimal, flagDigits}
 
 -- how many instructions are run at most
 abbrev pub mostLines : ℕ
 mostLines = 16
 
-unfoldable pub header : List ℕ
-header = letters "step pc word clocks cvnz\n"
-
--- the flags as digits, in the order C, V, N, Z
-abbrev pub flagDigits : Flags → List ℕ
-flagDigits flags = map digit (flagNumbers flags)
+unfoldable pub heading : List ℕ
+heading = letters "step pc word clocks cvnz\n"
 
 -- a figure with a space after it; the last figure of a line
 abbrev pub spaced : List ℕ → List ℕ
@@ -63,20 +58,20 @@ abbrev pub endingWord : Ending → List ℕ
 endingWord Finished = letters "finished "
 endingWord Outside = letters "outside "
 
-unfoldable pub ending : (word : List ℕ) → (count total : ℕ) → List ℕ
-ending word count total = word ++ spaced (decimal count) ++ ended (decimal total)
+unfoldable pub endingText : (word : List ℕ) → (count total : ℕ) → List ℕ
+endingText word count total = word ++ spaced (decimal count) ++ ended (decimal total)
 
--- header, lines and ending of a run
+-- heading, lines and ending of a run
 unfoldable pub runText : Run → List ℕ
 runText start =
     let last = interpret [] mostLines start in
-    header ++ lines mostLines start ++ ending (endingWord (last .ending)) (last .ran) (last .clocks)
+    heading ++ lines mostLines start ++ endingText (endingWord (last .ending)) (last .ran) (last .clocks)
 
 -- all that is printed for a bad image
 unfoldable pub refusedText : Refusal → List ℕ
 refusedText why = letters "refused " ++ ended (decimal (refusalNumber why))
 
--- The longest text: the header's 25 bytes, 9 lines of at most 28 bytes and 7 of at most 29, and an ending of at most 16
+-- the longest text: the heading's 25 bytes, 9 lines of at most 28 bytes and 7 of at most 29, and an ending of at most 16
 abbrev pub longestText : ℕ
 longestText = 496
 

@@ -1,1 +1,1 @@
-// The definition of the ledger's text, its length, and the paper's example; no code.
+// The definition of the ledger's text, its length, document 01's example and what bad images print; no code.

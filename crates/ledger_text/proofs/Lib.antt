@@ -1,4 +1,4 @@
-pub mod PartLaws
-pub mod RunLaws
-pub mod TurnLaws
-pub mod AnswerLaws
+mod Parts
+mod Runs
+mod Turns
+pub mod Answers

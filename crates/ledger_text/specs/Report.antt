@@ -20,7 +20,7 @@ ledgerWords (refused why) memory = memory
 abbrev pub roomy : (out : List ℕ) → Bool
 roomy out = leb longestText (length out)
 
--- how many bytes are put out: none where there is no room, which is no refusal of the paper
+-- how many bytes are put out: none where there is no room, which is no refusal of document 01
 abbrev pub textLength : ReportAnswer → ℕ
 textLength (ReportAnswer.Text bytes) = bytes
 textLength ReportAnswer.NoRoom = 0

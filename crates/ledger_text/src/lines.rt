@@ -4,25 +4,24 @@ use model::Flags;
 use model::Refusal;
 use refusals::refusal_number;
 use text::put_decimal;
+use text::put_flag_digits;
 use text::put_hexadecimal;
 use text::put_text;
-ghost use mathlib.Core.Path.{_≡_};
 ghost use mathlib.Core.List.{_∷_, [], _++_};
 ghost use Prim.Native.Nat.{_^_, _<_};
-ghost use Rattle.arithmetic.specs.Words.{asNumber};
-ghost use Rattle.text.specs.Text.{lineFeed, digit, decimal, hexadecimal};
-ghost use Rattle.ledger_lines.specs.Lines.{header, flagDigits, line, endingWord, ending, refusedText};
+ghost use Rattle.text.specs.Text.{decimal, hexadecimal};
+ghost use Rattle.ledger_lines.specs.Lines.{heading, line, endingWord, endingText, refusedText};
 ghost use Rattle.ledger_text.specs.Parts.{Extends, ExtendsBy};
 
 // The line above the instructions' lines.
-pub fn put_header(out: &mut [u8]) -> usize
-    ensures { λ r. ⌜ ExtendsBy 25 (now (out .entry)) 0 header (now (out .exit)) r ⌝ }
+pub fn put_heading(out: &mut [u8]) -> usize
+    ensures { λ r. ⌜ ExtendsBy 25 (now (out .entry)) 0 heading (now (out .exit)) r ⌝ }
 {
     put_text(out, 0, b"step pc word clocks cvnz\n")
 }
 
 // A number, and the byte that ends it.
-fn put_number(out: &mut [u8], at: usize, n: u64, end: u8) -> usize
+fn put_decimal_figure(out: &mut [u8], at: usize, n: u64, end: u8) -> usize
     requires { ⌜ at < 2 ^ 32 ⌝ }
     ensures { λ r. ⌜ ExtendsBy 21 (now (out .entry)) at (decimal n ++ end ∷ []) (now (out .exit)) r ⌝ }
 {
@@ -31,30 +30,12 @@ fn put_number(out: &mut [u8], at: usize, n: u64, end: u8) -> usize
 }
 
 // A word, and the byte that ends it.
-fn put_word(out: &mut [u8], at: usize, word: u32, end: u8) -> usize
+fn put_hexadecimal_figure(out: &mut [u8], at: usize, word: u32, end: u8) -> usize
     requires { ⌜ at < 2 ^ 32 ⌝ }
     ensures { λ r. ⌜ ExtendsBy 9 (now (out .entry)) at (hexadecimal word ++ end ∷ []) (now (out .exit)) r ⌝ }
 {
     let next = at + put_hexadecimal(out, at, word);
     next + put_text(out, next, &[end])
-}
-
-fn flag_digit(flag: bool) -> u8
-    ensures { λ r. ⌜ r ≡ digit (asNumber flag) ⌝ }
-{
-    if flag { b'1' } else { b'0' }
-}
-
-// The flags, and the line's end.
-fn put_flags(out: &mut [u8], at: usize, flags: Flags) -> usize
-    requires { ⌜ at < 2 ^ 32 ⌝ }
-    ensures { λ r. ⌜ ExtendsBy 5 (now (out .entry)) at (flagDigits flags ++ lineFeed ∷ []) (now (out .exit)) r ⌝ }
-{
-    let c = flag_digit(flags.carry);
-    let v = flag_digit(flags.overflow);
-    let n = flag_digit(flags.negative);
-    let z = flag_digit(flags.zero);
-    at + put_text(out, at, &[c, v, n, z, b'\n'])
 }
 
 // An instruction's line.
@@ -70,11 +51,12 @@ pub fn put_line(
     requires { ⌜ at < 2 ^ 16 ⌝ }
     ensures { λ r. ⌜ Extends (now (out .entry)) at (line number address word clocks flags) (now (out .exit)) r ⌝ }
 {
-    let after_number = put_number(out, at, number, b' ');
-    let after_address = put_word(out, after_number, address, b' ');
-    let after_word = put_word(out, after_address, word, b' ');
-    let after_clocks = put_number(out, after_word, clocks, b' ');
-    put_flags(out, after_clocks, flags)
+    let after_number = put_decimal_figure(out, at, number, b' ');
+    let after_address = put_hexadecimal_figure(out, after_number, address, b' ');
+    let after_word = put_hexadecimal_figure(out, after_address, word, b' ');
+    let after_clocks = put_decimal_figure(out, after_word, clocks, b' ');
+    let after_flags = after_clocks + put_flag_digits(out, after_clocks, flags);
+    after_flags + put_text(out, after_flags, b"\n")
 }
 
 fn put_ending_word(out: &mut [u8], at: usize, how: Ending) -> usize
@@ -90,11 +72,11 @@ fn put_ending_word(out: &mut [u8], at: usize, how: Ending) -> usize
 // The ending's word, with count and total.
 pub fn put_ending(out: &mut [u8], at: usize, how: Ending, count: u64, total: u64) -> usize
     requires { ⌜ at < 2 ^ 16 ⌝ }
-    ensures { λ r. ⌜ Extends (now (out .entry)) at (ending (endingWord how) count total) (now (out .exit)) r ⌝ }
+    ensures { λ r. ⌜ Extends (now (out .entry)) at (endingText (endingWord how) count total) (now (out .exit)) r ⌝ }
 {
     let after_word = put_ending_word(out, at, how);
-    let after_count = put_number(out, after_word, count, b' ');
-    put_number(out, after_count, total, b'\n')
+    let after_count = put_decimal_figure(out, after_word, count, b' ');
+    put_decimal_figure(out, after_count, total, b'\n')
 }
 
 // All that is printed for a bad image.
@@ -102,5 +84,5 @@ pub fn put_refused(out: &mut [u8], why: Refusal) -> usize
     ensures { λ r. ⌜ Extends (now (out .entry)) 0 (refusedText why) (now (out .exit)) r ⌝ }
 {
     let after_word = put_text(out, 0, b"refused ");
-    put_number(out, after_word, refusal_number(why) as u64, b'\n')
+    put_decimal_figure(out, after_word, refusal_number(why) as u64, b'\n')
 }

@@ -1,6 +1,6 @@
-// The text of a run: header, a line for each instruction, ending.
+// The text of a run: heading, a line for each instruction, ending.
 use super::lines::put_ending;
-use super::lines::put_header;
+use super::lines::put_heading;
 use super::lines::put_line;
 use interpreter::RunResult;
 use interpreter::run;
@@ -29,7 +29,7 @@ pub fn put_run(memory: &mut [u32], start: Machine, out: &mut [u8]) -> usize
     requires { ⌜ (0 < length (now memory)) × (length (now memory) ≤ mostWords) ⌝ }
     ensures { λ r. ⌜ RunPuts start (now (memory .entry)) (now (out .entry)) (now (memory .exit)) (now (out .exit)) r ⌝ }
 {
-    let mut at = put_header(out);
+    let mut at = put_heading(out);
     let mut machine = start;
     let mut ran = 0;
     let mut clocks = 0;

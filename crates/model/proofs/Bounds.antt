@@ -1,38 +1,26 @@
 -- How large a run's clock total gets, for the 64 bits of the code, and its count.
 use Prim.Native.Nat.{ℕ, zero, suc, _+_, _*_, _≤_}
-use mathlib.Core.Bool.{Bool, true, false, cond, _&&_}
+use mathlib.Core.Bool.{_&&_}
 use mathlib.Core.List.{List}
 use native.Mathlib.Nat.{mul-le-mul-right}
 use native.Mathlib.Omega.{arith}
-use Rattle.arithmetic.proofs.Sums.{bit-le}
+use Rattle.arithmetic.proofs.Bits.{bit-le}
 use Rattle.model.specs.declared.Machine.{Machine}
-use Rattle.model.specs.declared.Ending.{Ending}
-use Rattle.model.specs.declared.Ending.the-variants.{Finished, Outside}
 use Rattle.model.specs.Operands.{inMemory}
-use Rattle.model.specs.Waits.{waitAt, nextWait, waitSum}
-use Rattle.model.specs.Interpreter.{Run, opA, opB, isStored, inside, baseClocks, accesses, execute, stop, advance, interpret}
+use Rattle.model.specs.Waits.{waitAt, nextPosition, waitSum}
+use Rattle.model.specs.Interpreter.{Run, opA, opB, isStored, baseClocks, accesses, execute, stop, advance, interpret}
+use Rattle.model.proofs.Runs.{one-more}
 
 -- ---- the count of instructions
 
-advance-ran : (waits : List ℕ) (m : Machine) (memory : List ℕ) (p f c : ℕ) (q : Ending)
-    → advance waits (record { machine = m; memory = memory; position = p; ran = f; clocks = c; ending = q }) .ran ≤ f + 1
-unfolding advance execute stop
-advance-ran waits m memory p f c Finished = go (inside memory m)
-  where
-    r : Run
-    r = record { machine = m; memory = memory; position = p; ran = f; clocks = c; ending = Finished }
-
-    go : (t : Bool) → cond t (execute waits r) (stop Outside r) .ran ≤ f + 1
-    go true = omega arith
-    go false = omega arith
-advance-ran waits m memory p f c Outside = omega arith
+advance-ran : (waits : List ℕ) (r : Run) → advance waits r .ran ≤ r .ran + 1
+unfolding execute stop
+advance-ran waits r = one-more waits (λ (x : Run). x .ran ≤ r .ran + 1) r (λ _ _. omega arith) (λ _ _. omega arith) (λ _. omega arith)
 
 pub ran-le : (waits : List ℕ) (n : ℕ) (r : Run) → interpret waits n r .ran ≤ r .ran + n
 unfolding interpret
 ran-le waits zero r = omega arith
-ran-le waits (suc n) r =
-    let i = interpret waits n r in
-    omega (arith, ran-le waits n r, advance-ran waits (i .machine) (i .memory) (i .position) (i .ran) (i .clocks) (i .ending))
+ran-le waits (suc n) r = omega (arith, ran-le waits n r, advance-ran waits (interpret waits n r))
 
 -- ---- the clocks, with waits of at most w each
 
@@ -40,7 +28,7 @@ module _ (waits : List ℕ) (w : ℕ) (short : (p : ℕ) → waitAt waits p ≤ 
   sum-le : (p n : ℕ) → waitSum waits p n ≤ n * w
   unfolding waitSum
   sum-le p zero = omega arith
-  sum-le p (suc n) = omega (arith, short p, sum-le (nextWait waits p) n)
+  sum-le p (suc n) = omega (arith, short p, sum-le (nextPosition waits p) n)
 
   instruction-le : (memory : List ℕ) (m : Machine) (p : ℕ) → baseClocks memory m + waitSum waits p (accesses memory m) ≤ 11 + 4 * w
   instruction-le memory m p =
@@ -51,23 +39,16 @@ module _ (waits : List ℕ) (w : ℕ) (short : (p : ℕ) → waitAt waits p ≤ 
       let few : accesses memory m ≤ 4 = omega arith in
       omega (arith, sum-le p (accesses memory m), mul-le-mul-right w few)
 
-  advance-le : (m : Machine) (memory : List ℕ) (p f c : ℕ) (q : Ending)
-      → advance waits (record { machine = m; memory = memory; position = p; ran = f; clocks = c; ending = q }) .clocks ≤ c + (11 + 4 * w)
-  unfolding advance execute stop
-  advance-le m memory p f c Finished = go (inside memory m)
-    where
-      r : Run
-      r = record { machine = m; memory = memory; position = p; ran = f; clocks = c; ending = Finished }
-
-      go : (t : Bool) → cond t (execute waits r) (stop Outside r) .clocks ≤ c + (11 + 4 * w)
-      go true = omega (arith, instruction-le memory m p)
-      go false = omega arith
-  advance-le m memory p f c Outside = omega arith
+  advance-le : (r : Run) → advance waits r .clocks ≤ r .clocks + (11 + 4 * w)
+  unfolding execute stop
+  advance-le r =
+      one-more waits (λ (x : Run). x .clocks ≤ r .clocks + (11 + 4 * w)) r
+      (λ _ _. omega (arith, instruction-le (r .memory) (r .machine) (r .position)))
+      (λ _ _. omega arith)
+      (λ _. omega arith)
 
   -- at most 11 clocks and four waits for each instruction
   pub clocks-le : (n : ℕ) (r : Run) → interpret waits n r .clocks ≤ r .clocks + n * (11 + 4 * w)
   unfolding interpret
   clocks-le zero r = omega arith
-  clocks-le (suc n) r =
-      let i = interpret waits n r in
-      omega (arith, clocks-le n r, advance-le (i .machine) (i .memory) (i .position) (i .ran) (i .clocks) (i .ending))
+  clocks-le (suc n) r = omega (arith, clocks-le n r, advance-le (interpret waits n r))

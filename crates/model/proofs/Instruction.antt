@@ -10,9 +10,9 @@ use Rattle.model.specs.declared.Machine.{Machine}
 use Rattle.model.specs.declared.GateState.{GateState}
 use Rattle.model.specs.Words.{wordAt, present, storeWord}
 use Rattle.model.specs.Operands.{operandB, registerOf, inMemory, registerWord}
-use Rattle.model.specs.Waits.{nextWait, positionAfter}
+use Rattle.model.specs.Waits.{nextPosition, positionAfter}
 use Rattle.model.specs.Interpreter as I
-use Rattle.model.specs.Gates.{Gate, gate, withRow, withRegs, withAddress, withA, withB, withAccess, addressPc, readInstruction, stepPc, compute, stepUpA, stepUpB, work, isAccess, clock}
+use Rattle.model.specs.GateMachine.{Gate, gate, withRow, withRegs, withAddress, withA, withB, withAccess, addressPc, readInstruction, stepPc, compute, stepUpA, stepUpB, work, isAccess, clock}
 use Rattle.model.specs.Agreement.{machineOf}
 use Rattle.model.proofs.Reach.{Reaches, then, costs, stays, row, accessed}
 
@@ -42,8 +42,8 @@ module _ (waits memory : List ℕ) (read next : ℕ) (latch : ℕ → GateState 
   takes f access reads keeps true here g e q =
       then waits (row waits e q)
       (accessed waits (withRow read (withAddress word s)) memory f access here p l
-      (reads (withAddress word (withAccess (nextWait waits p) false 0 s)))
-      (keeps _ (withRow read (withAddress word (withAccess (nextWait waits p) false 0 s)))))
+      (reads (withAddress word (withAccess (nextPosition waits p) false 0 s)))
+      (keeps _ (withRow read (withAddress word (withAccess (nextPosition waits p) false 0 s)))))
   takes f access reads keeps false here g e q =
       then waits (row waits e (keeps _ (withAccess p false l s) ∙ q)) (stays waits)
 
@@ -86,7 +86,7 @@ module _ (waits memory : List ℕ) (s : GateState) where
   -- the state in row 3, then before and in row 5, 7 and 10
   abbrev pub fetched : GateState
   fetched =
-      stepPc memory (readInstruction memory (withAccess (nextWait waits (s .position)) false 0 (addressPc memory (idle s))))
+      stepPc memory (readInstruction memory (withAccess (nextPosition waits (s .position)) false 0 (addressPc memory (idle s))))
 
   abbrev pub downA : GateState
   downA = withRegs (I.regsA memory m) fetched
@@ -118,25 +118,25 @@ module _ (waits memory : List ℕ) (s : GateState) where
         (then waits (accessed waits (addressPc memory (idle s)) memory f refl here (s .position) (s .left) refl refl)
         (row waits refl refl))
 
-    pub takesA : I.presentA memory m ≡ true
+    pub takes-a : I.presentA memory m ≡ true
         → Reaches waits (gate fetched memory f) (1 + asNumber (inMemory (I.opA memory m))) (0 + asNumber (inMemory (I.opA memory m))) (gate takenA memory f)
     unfolding clock work isAccess
-    takesA here =
+    takes-a here =
         takes waits memory 4 5 withA downA wordA (downA .position) (downA .left) f refl (λ t. refl) (λ x t. refl)
         (inMemory (I.opA memory m)) here (gate fetched memory f) refl refl
 
-    takesB : I.presentB memory m ≡ true
+    takes-b : I.presentB memory m ≡ true
         → Reaches waits (gate takenA memory f) (1 + asNumber (inMemory (I.opB memory m))) (0 + asNumber (inMemory (I.opB memory m))) (gate takenB memory f)
     unfolding clock work isAccess
-    takesB here =
+    takes-b here =
         takes waits memory 6 7 withB downB (I.addressB memory m) (downB .position) (downB .left) f refl (λ t. refl) (λ x t. refl)
         (inMemory (I.opB memory m)) here (gate takenA memory f) refl refl
 
-    writesB : I.presentB memory m ≡ true
+    writes-b : I.presentB memory m ≡ true
         → Reaches waits (gate takenB memory f) (1 + asNumber (I.isStored memory m)) (0 + asNumber (I.isStored memory m && inMemory (I.opB memory m)))
         (gate writtenB (I.nextMemory memory m) f)
     unfolding clock work isAccess
-    writesB here =
+    writes-b here =
         then waits (row waits refl refl)
         (writes waits memory computed (I.addressB memory m) (computed .position) (computed .left) f (I.isStored memory m) (inMemory (I.opB memory m)) here)
 
@@ -149,4 +149,4 @@ module _ (waits memory : List ℕ) (s : GateState) where
         → Reaches waits (gate (idle s) memory f) (I.baseClocks memory m) (I.accesses memory m) next
     executes hereI hereA hereB =
         costs waits (omega arith) (omega arith)
-        (then waits (fetches hereI) (then waits (takesA hereA) (then waits (takesB hereB) (then waits (writesB hereB) finishes))))
+        (then waits (fetches hereI) (then waits (takes-a hereA) (then waits (takes-b hereB) (then waits (writes-b hereB) finishes))))

@@ -1,11 +1,12 @@
--- A list with values stored from a place on (`sets`), part by part.
-use Prim.Native.Nat.{ℕ, suc, _+_, _≤_}
-use mathlib.Core.Path.{_≡_, sym, ap, ap₂, _∙_}
+-- A list with values stored from a place on (`sets`), part by part, and laid over its front.
+use Prim.Native.Nat.{ℕ, suc, _+_, _≤_, _<_}
+use mathlib.Core.Path.{_≡_, refl, sym, ap, ap₂, _∙_}
 use mathlib.Core.List.{List, [], _∷_, _++_}
 use native.Mathlib.Nat.{add-zero, zero-add}
+use native.Mathlib.Numerals.{add-one}
 use native.Mathlib.Omega.{arith}
-use lib.ListN.{length, set, drop}
-use lib.Seq.{sets, sets-eq}
+use lib.ListN.{length, getD, set, drop, length-append, length-set}
+use lib.Seq.{sets, sets-eq, set-out, set-comm, set-append-seam, drop-cons, append-snoc}
 use Rattle.model.specs.Words.{overlay}
 
 -- values stored one after the other are stored together
@@ -14,6 +15,22 @@ sets-append list at [] b = ap (λ (n : ℕ). sets list n b) (add-zero at)
 sets-append list at (x ∷ a) b =
     let e : at + suc (length a) ≡ suc at + length a = omega arith in
     ap (λ (n : ℕ). sets (sets (set list at x) (suc at) a) n b) e ∙ sets-append (set list at x) (suc at) a b
+
+-- none past the list's end
+pub sets-out : (list : List ℕ) (at : ℕ) (values : List ℕ) → length list ≤ at → sets list at values ≡ list
+sets-out list at [] h = refl
+sets-out list at (x ∷ values) h = sets-out (set list at x) (suc at) values (simp length-set (omega arith)) ∙ set-out list at x h
+
+-- a value further on may be stored first
+set-first : (list : List ℕ) (at : ℕ) (values : List ℕ) (i x : ℕ) → at + length values ≤ i → sets (set list i x) at values ≡ set (sets list at values) i x
+set-first list at [] i x h = refl
+set-first list at (y ∷ values) i x h =
+    ap (λ (l : List ℕ). sets l (suc at) values) (set-comm list i at x y (λ e. omega arith))
+    ∙ set-first (set list at y) (suc at) values i x (omega arith)
+
+-- the last value may be stored first
+pub last-first : (list : List ℕ) (at : ℕ) (values : List ℕ) (x : ℕ) → sets (set list (at + length values) x) at values ≡ sets list at (values ++ x ∷ [])
+last-first list at values x = set-first list at values (at + length values) x (omega arith) ∙ sets-append list at values (x ∷ [])
 
 -- what is still to be stored, after a part of it was
 pub store-step : (list list′ : List ℕ) (at at′ : ℕ) (a b whole : List ℕ) → list′ ≡ sets list at a → at′ ≡ at + length a
@@ -26,3 +43,14 @@ store-end list at b whole p e = ap (sets list at) (sym p) ∙ e
 -- values stored from the front on are laid over it
 pub overlaid : (list values : List ℕ) → length values ≤ length list → sets list 0 values ≡ overlay values list
 overlaid list values h = sets-eq values list 0 (rw zero-add h) ∙ ap (λ (n : ℕ). values ++ drop n list) (zero-add (length values))
+
+-- one value more laid over
+pub overlay-more : (xs j : List ℕ) (n v : ℕ) → n ≡ length xs → n < length j → set (overlay xs j) n v ≡ overlay (xs ++ (v ∷ [])) j
+overlay-more xs j n v e h =
+    let l : length xs < length j = omega arith in
+    let k : length (xs ++ (v ∷ [])) ≡ suc (length xs) = length-append xs (v ∷ []) ∙ add-one (length xs) in
+    ap (λ (i : ℕ). set (overlay xs j) i v) e
+    ∙ ap (λ (d : List ℕ). set (xs ++ d) (length xs) v) (drop-cons j (length xs) 0 l)
+    ∙ set-append-seam xs (getD j (length xs) 0) (drop (suc (length xs)) j) v
+    ∙ sym (append-snoc xs v (drop (suc (length xs)) j))
+    ∙ ap (λ (i : ℕ). (xs ++ (v ∷ [])) ++ drop i j) (sym k)

@@ -10,38 +10,38 @@ use borrow.Author.Tests.{ltb-true, lt-ltb, le-leb, leb-true, eqb-true}
 use Rattle.model.specs.declared.GateState.{GateState}
 use Rattle.model.specs.declared.Refusal.the-variants.{LongWaitList, BadGateState}
 use Rattle.model.specs.declared.Verdict.the-variants.{Accepted}
-use Rattle.model.specs.Words.{present}
 use Rattle.model.specs.Operands.{operandA, operandB, inMemory}
 use Rattle.model.specs.Alu.{stores}
-use Rattle.model.specs.Waits.{nextWait}
-use Rattle.model.specs.Gates.{Gate, gate, withAccess, onState, addressPc, readInstruction, stepPc, prepareA, readA, prepareB, readB, compute, writeRegister, writeMemory, stepUpA, stepUpB, rows, work, isAccess, remaining, positionNow, workOrWait, clock, gateRun}
+use Rattle.model.specs.Waits.{nextPosition}
+use Rattle.model.specs.GateMachine.{Gate, gate, withAccess, onState, addressPc, readInstruction, stepPc, prepareA, readA, prepareB, readB, compute, writeRegister, writeMemory, stepUpA, stepUpB, rows, work, isAccess, positionNow, clock, gateRun}
 use Rattle.model.specs.Agreement.{gateFrom}
-use Rattle.model.specs.Refusals.{mostWaits, _then_, memoryFits, waitsFit, accessFits, stateFits, gateVerdict}
-use Rattle.model.proofs.Rows.{All, none, _▸_}
+use Rattle.model.specs.Refusals.{mostWaits, _then_, memoryFits, waitsFit, accessFormed, stateFits, gateVerdict}
+use Rattle.model.proofs.Cases.{pick, Each, past, _▸_}
+use Rattle.model.proofs.Clocks.{accessOver, one-clock}
 use Rattle.model.proofs.Verdicts.{demanded, both}
 
 -- ---- what a run asks of a state
 
 pub record Valid (s : GateState) : Type 0 where
   pub row : s .row < 12
-  pub position : s .position ≤ 65536
-  pub access : accessFits s ≡ true
+  pub position : s .position ≤ mostWaits
+  pub access : accessFormed s ≡ true
 
 pub valid-verdict : (s : GateState) → Valid s → stateFits s ≡ Accepted
 valid-verdict s v = rw (le-leb (s .row) 11 (omega (arith, v .row)), le-leb (s .position) mostWaits (v .position), v .access)
 
 verdict-valid : (s : GateState) → stateFits s ≡ Accepted → Valid s
 verdict-valid s e =
-    let (rp, a) = and-eq-true-iff (leb (s .row) 11 && leb (s .position) mostWaits) (accessFits s) .0 (demanded _ BadGateState e) in
+    let (rp, a) = and-eq-true-iff (leb (s .row) 11 && leb (s .position) mostWaits) (accessFormed s) .0 (demanded _ BadGateState e) in
     let (r, p) = and-eq-true-iff (leb (s .row) 11) (leb (s .position) mostWaits) .0 rp in
     record { row = omega (arith, leb-true (s .row) 11 r); position = leb-true (s .position) mostWaits p; access = a }
 
 -- with no access begun
-pub resting : (s : GateState) → s .row < 12 → s .position ≤ 65536 → s .begun ≡ false → s .left ≡ 0 → Valid s
+pub resting : (s : GateState) → s .row < 12 → s .position ≤ mostWaits → s .begun ≡ false → s .left ≡ 0 → Valid s
 resting s r p b l = record { row = r; position = p; access = rw (b, l) }
 
 -- a row that is no access has none begun
-none-begun : (s : GateState) → isAccess (s .row) ≡ false → accessFits s ≡ true → (s .begun ≡ false) × (s .left ≡ 0)
+none-begun : (s : GateState) → isAccess (s .row) ≡ false → accessFormed s ≡ true → (s .begun ≡ false) × (s .left ≡ 0)
 none-begun s a v = go (s .begun) refl (rw a at v)
   where
     go : (b : Bool) → s .begun ≡ b → cond b (false && ltb 0 (s .left)) (eqb (s .left) 0) ≡ true → (s .begun ≡ false) × (s .left ≡ 0)
@@ -50,17 +50,13 @@ none-begun s a v = go (s .begun) refl (rw a at v)
 
 -- ---- a row leads to a row of the table, and leaves the access in hand and the memory's length
 
-pub record Kept (g h : Gate) : Type 0 where
-  pub row : h .state .row < 12
-  pub access : h .state ≡ withAccess (g .state .position) (g .state .begun) (g .state .left) (h .state)
-  pub words : length (h .memory) ≡ length (g .memory)
+record Kept (g h : Gate) : Type 0 where
+  row : h .state .row < 12
+  access : h .state ≡ withAccess (g .state .position) (g .state .begun) (g .state .left) (h .state)
+  words : length (h .memory) ≡ length (g .memory)
 
 Keeps : (Gate → Gate) → Type 0
 Keeps f = (g : Gate) → g .state .row < 12 → Kept g (f g)
-
-pick : {A : Type 0} (P : A → Type 0) (b : Bool) (x y : A) → P x → P y → P (cond b x y)
-pick P true x y p q = p
-pick P false x y p q = q
 
 keeps : (h : List ℕ → GateState → GateState) → ((m : List ℕ) (s : GateState) → h m s .row < 12)
     → ((m : List ℕ) (s : GateState) → h m s ≡ withAccess (s .position) (s .begun) (s .left) (h m s)) → Keeps (onState h)
@@ -74,11 +70,6 @@ Low t = t .row < 12
 abbrev Same : GateState → GateState → Type 0
 Same s t = t ≡ withAccess (s .position) (s .begun) (s .left) t
 
-one-of : (b c : Bool) → cond b (cond c 9 8) 10 < 12
-one-of true true = omega arith
-one-of true false = omega arith
-one-of false c = omega arith
-
 writes-keep : Keeps writeMemory
 unfolding Keeps
 writes-keep g l = record { row = omega arith; access = refl; words = length-set (g .memory) (g .state .address) (g .state .result) }
@@ -87,49 +78,44 @@ finish-keeps : Keeps stepUpB
 unfolding Keeps
 finish-keeps g l = record { row = omega arith; access = refl; words = refl }
 
-rows-keep : All Keeps rows
+rows-keep : Each (λ r. Keeps (getD rows r (λ h. h)))
+unfolding Keeps
 rows-keep =
     keeps addressPc (λ m s. omega arith) (λ m s. refl)
     ▸ keeps readInstruction (λ m s. omega arith) (λ m s. refl)
     ▸ keeps stepPc (λ m s. omega arith) (λ m s. refl)
-    ▸ keeps prepareA (λ m s. pick Low (inMemory (operandA (s .instruction))) _ _ (omega arith) (omega arith)) (λ m s. pick (Same s) (inMemory (operandA (s .instruction))) _ _ refl refl)
+    ▸ keeps prepareA (λ m s. pick Low (inMemory (operandA (s .instruction))) (omega arith) (omega arith)) (λ m s. pick (Same s) (inMemory (operandA (s .instruction))) refl refl)
     ▸ keeps readA (λ m s. omega arith) (λ m s. refl)
-    ▸ keeps prepareB (λ m s. pick Low (inMemory (operandB (s .instruction))) _ _ (omega arith) (omega arith)) (λ m s. pick (Same s) (inMemory (operandB (s .instruction))) _ _ refl refl)
+    ▸ keeps prepareB (λ m s. pick Low (inMemory (operandB (s .instruction))) (omega arith) (omega arith)) (λ m s. pick (Same s) (inMemory (operandB (s .instruction))) refl refl)
     ▸ keeps readB (λ m s. omega arith) (λ m s. refl)
-    ▸ keeps compute (λ m s. one-of (stores (s .instruction) (s .flags)) (inMemory (operandB (s .instruction)))) (λ m s. refl)
+    ▸ keeps compute (λ m s. pick (λ (n : ℕ). n < 12) (stores (s .instruction) (s .flags)) (pick (λ (n : ℕ). n < 12) (inMemory (operandB (s .instruction))) (omega arith) (omega arith)) (omega arith)) (λ m s. refl)
     ▸ keeps writeRegister (λ m s. omega arith) (λ m s. refl)
     ▸ writes-keep
     ▸ keeps stepUpA (λ m s. omega arith) (λ m s. refl)
     ▸ finish-keeps
-    ▸ none
-
-row-keeps : (fs : List (Gate → Gate)) → All Keeps fs → (r : ℕ) → Keeps (getD fs r (λ h. h))
-unfolding Keeps
-row-keeps fs none r g l = record { row = l; access = refl; words = refl }
-row-keeps fs (p ▸ ps) zero g l = p g l
-row-keeps fs (_▸_ {fs = gs} p ps) (suc r) g l = row-keeps gs ps r g l
+    ▸ past (λ r g l. record { row = l; access = refl; words = refl })
 
 work-keeps : Keeps work
 unfolding Keeps work
-work-keeps g l = row-keeps rows rows-keep (g .state .row) g l
+work-keeps g l = rows-keep .at (g .state .row) g l
 
 -- ---- one clock, and a run
 
-pub record Fine (words : ℕ) (g : Gate) : Type 0 where
-  pub valid : Valid (g .state)
-  pub length : lib.ListN.length (g .memory) ≡ words
+record Fine (words : ℕ) (g : Gate) : Type 0 where
+  valid : Valid (g .state)
+  length : lib.ListN.length (g .memory) ≡ words
 
-module _ (waits : List ℕ) (short : length waits ≤ 65536) where
-  next-low : (p : ℕ) → p ≤ 65536 → (b : Bool) → ltb p (length waits) ≡ b → cond b (p + 1) p ≤ 65536
+module _ (waits : List ℕ) (short : length waits ≤ mostWaits) where
+  next-low : (p : ℕ) → p ≤ mostWaits → (b : Bool) → ltb p (length waits) ≡ b → cond b (p + 1) p ≤ mostWaits
   next-low p h true e = omega (arith, ltb-true p (length waits) e)
   next-low p h false e = h
 
-  position-low : (s : GateState) → s .position ≤ 65536 → positionNow waits s ≤ 65536
-  unfolding positionNow nextWait
-  position-low s h = pick (λ (p : ℕ). p ≤ 65536) (s .begun) _ _ h (next-low (s .position) h (ltb (s .position) (length waits)) refl)
+  position-low : (s : GateState) → s .position ≤ mostWaits → positionNow waits s ≤ mostWaits
+  unfolding positionNow nextPosition
+  position-low s h = pick (λ (p : ℕ). p ≤ mostWaits) (s .begun) h (next-low (s .position) h (ltb (s .position) (length waits)) refl)
 
   -- the work of a row that has no access begun
-  works : (words : ℕ) (g : Gate) → g .state .row < 12 → g .state .position ≤ 65536 → g .state .begun ≡ false → g .state .left ≡ 0 → length (g .memory) ≡ words → Fine words (work g)
+  works : (words : ℕ) (g : Gate) → g .state .row < 12 → g .state .position ≤ mostWaits → g .state .begun ≡ false → g .state .left ≡ 0 → length (g .memory) ≡ words → Fine words (work g)
   unfolding Keeps
   works words g r p b l w =
       let k = work-keeps g r in
@@ -139,22 +125,16 @@ module _ (waits : List ℕ) (short : length waits ≤ 65536) where
       }
 
   clock-fine : (words : ℕ) (g : Gate) → Fine words g → Fine words (clock waits g)
-  unfolding clock workOrWait
-  clock-fine words g h = go (isAccess (g .state .row)) refl (present (g .memory) (g .state .address)) (remaining waits (g .state))
-    where
-      p : ℕ
-      p = positionNow waits (g .state)
-
-      low : p ≤ 65536
-      low = position-low (g .state) (h .valid .position)
-
-      go : (access : Bool) → isAccess (g .state .row) ≡ access → (here : Bool) (w : ℕ) → Fine words (cond access (cond here (workOrWait w p g) g) (work g))
-      go true e true zero = works words (onState (λ memory. withAccess p false 0) g) (h .valid .row) low refl refl (h .length)
-      go true e true (suc w) = record { valid = record { row = h .valid .row; position = low; access = rw (e, lt-ltb 0 (suc w) (omega arith)) }; length = h .length }
-      go true e false w = h
-      go false e here w =
-          let n = none-begun (g .state) e (h .valid .access) in
-          works words g (h .valid .row) (h .valid .position) (n .0) (n .1) (h .length)
+  unfolding clock
+  clock-fine words g h =
+      let low = position-low (g .state) (h .valid .position) in
+      one-clock waits g (λ (c : Gate → Gate). Fine words (c g))
+      (λ _ _ _. works words (accessOver waits g g) (h .valid .row) low refl refl (h .length))
+      (λ access _ w _. record { valid = record { row = h .valid .row; position = low; access = rw (access, lt-ltb 0 (suc w) (omega arith)) }; length = h .length })
+      (λ _ _. h)
+      (λ plain.
+      let n = none-begun (g .state) plain (h .valid .access) in
+      works words g (h .valid .row) (h .valid .position) (n .0) (n .1) (h .length))
 
   run-fine : (words k : ℕ) (g : Gate) → Fine words g → Fine words (gateRun waits k g)
   unfolding gateRun
@@ -164,25 +144,36 @@ module _ (waits : List ℕ) (short : length waits ≤ 65536) where
 -- ---- a call that is carried out
 
 -- nothing that a run asks fails
-pub record Passed (memory waits : List ℕ) (start : GateState) : Type 0 where
-  pub words : memoryFits memory ≡ Accepted
-  pub list : waitsFit waits ≡ Accepted
-  pub state : stateFits start ≡ Accepted
+record Passed (memory waits : List ℕ) (start : GateState) : Type 0 where
+  words : memoryFits memory ≡ Accepted
+  list : waitsFit waits ≡ Accepted
+  state : stateFits start ≡ Accepted
 
 module _ (memory waits : List ℕ) (start : GateState) (e : gateVerdict memory waits start ≡ Accepted) where
-  pub passed : Passed memory waits start
+  passed : Passed memory waits start
   unfolding gateVerdict
   passed =
       let (m, ws) = both (memoryFits memory) (waitsFit waits then stateFits start) e in
       let (w, s) = both (waitsFit waits) (stateFits start) ws in
       record { words = m; list = w; state = s }
 
-  pub short : length waits ≤ 65536
+  pub short : length waits ≤ mostWaits
   short = leb-true (length waits) mostWaits (demanded _ LongWaitList (passed .list))
 
   -- every state that the run comes to is one that a run takes
-  pub comes-fine : (i : ℕ) → Fine (length memory) (gateRun waits i (gateFrom start memory))
+  comes-fine : (i : ℕ) → Fine (length memory) (gateRun waits i (gateFrom start memory))
   comes-fine i = run-fine waits short (length memory) i (gateFrom start memory) (record { valid = verdict-valid start (passed .state); length = refl })
 
   pub row-there : (i : ℕ) {s : GateState} {m : List ℕ} {f : ℕ} → gate s m f ≡ gateRun waits i (gateFrom start memory) → s .row < 12
   row-there i q = rw (ap (λ (g : Gate). g .state .row) q) (comes-fine i .valid .row)
+
+  -- the verdict looks at the memory's length and at the state's validity
+  still-accepted : (g : Gate) → Fine (length memory) g → gateVerdict (g .memory) waits (g .state) ≡ Accepted
+  unfolding gateVerdict
+  still-accepted g f = rw (f .length, passed .words, passed .list) (valid-verdict (g .state) (f .valid))
+
+  -- the state and the memory that a run leaves are taken by the next
+  pub next-accepted : (i : ℕ) {s : GateState} {m : List ℕ} {f : ℕ} → gate s m f ≡ gateRun waits i (gateFrom start memory) → gateVerdict m waits s ≡ Accepted
+  next-accepted i q =
+      ap (λ (g : Gate). gateVerdict (g .memory) waits (g .state)) q
+      ∙ still-accepted (gateRun waits i (gateFrom start memory)) (comes-fine i)

@@ -1,17 +1,17 @@
 -- Verdicts one after the other; a call that is carried out: nothing that is demanded fails. The numbers of the refusals.
-use Prim.Native.Nat.{ℕ, _≤_, _<_}
-use mathlib.Core.Path.{_≡_, refl}
+use Prim.Native.Nat.{ℕ, _*_, _≤_, _<_}
+use mathlib.Core.Path.{_≡_, refl, sym, _∙_}
 use mathlib.Core.Bool.{Bool, true, false}
-use mathlib.Core.List.{List}
+use mathlib.Core.List.{List, []}
 use native.Mathlib.Omega.{arith}
 use lib.Dec.{ltb, leb}
 use lib.ListN.{length}
-use borrow.Author.Tests.{ltb-true, leb-true}
+use borrow.Author.Tests.{ltb-true, lt-ltb, le-leb, leb-true}
 use Rattle.model.specs.declared.Refusal.{Refusal}
 use Rattle.model.specs.declared.Refusal.the-variants.{NoWords, TooManyWords, LongWaitList, BadGateState, TooManyInstructions, ShortJournal, ShortOutput, CutImage, WrongTag, WrongLength, WrongVersion, BadFlag, BadWordCount, ShortMemory, TrailingBytes}
 use Rattle.model.specs.declared.Verdict.{Verdict}
 use Rattle.model.specs.declared.Verdict.the-variants.{Accepted, Refused}
-use Rattle.model.specs.Refusals.{refusalNumber, verdictNumber, mostWords, demand, _then_, memoryFits}
+use Rattle.model.specs.Refusals.{refusalNumber, verdictNumber, mostWords, mostInstructions, demand, _then_, memoryFits, runVerdict, fileVerdict}
 
 pub then-assoc : (u v w : Verdict) → ((u then v) then w) ≡ (u then (v then w))
 then-assoc Accepted v w = refl
@@ -33,6 +33,22 @@ pub memory-bounds : (memory : List ℕ) → memoryFits memory ≡ Accepted → (
 memory-bounds memory e =
     let p = both (demand (ltb 0 (length memory)) NoWords) (demand (leb (length memory) mostWords) TooManyWords) e in
     (ltb-true _ _ (demanded _ NoWords (p .0)), leb-true _ _ (demanded _ TooManyWords (p .1)))
+
+pub memory-accepted : (memory : List ℕ) → 0 < length memory → length memory ≤ mostWords → memoryFits memory ≡ Accepted
+memory-accepted memory some most = rw (lt-ltb 0 (length memory) some, le-leb (length memory) mostWords most)
+
+-- a run on such a memory with no wait list
+pub run-accepted : (memory : List ℕ) → 0 < length memory → length memory ≤ mostWords → runVerdict memory [] ≡ Accepted
+unfolding runVerdict
+run-accepted memory some most = rw (memory-accepted memory some most)
+
+-- the journal of an accepted file run has room for every pair
+pub room-for-all : (memory journal : List ℕ) (count : ℕ) {v : Verdict} → v ≡ Accepted → v ≡ fileVerdict memory journal count → 2 * count ≤ length journal
+unfolding fileVerdict
+room-for-all memory journal count p e =
+    let few = demand (leb count mostInstructions) TooManyInstructions in
+    let room = demand (leb (2 * count) (length journal)) ShortJournal in
+    leb-true (2 * count) (length journal) (demanded (leb (2 * count) (length journal)) ShortJournal (both few room (both (memoryFits memory) (few then room) (sym e ∙ p) .1) .1))
 
 -- a refusal has a number from 1 to 15
 pub numbered : (why : Refusal) → (1 ≤ refusalNumber why) × (refusalNumber why ≤ 15)

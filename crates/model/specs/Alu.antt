@@ -2,7 +2,7 @@
 -- bits 0 and 1. The unit's answers are of the crate arithmetic.
 use Prim.Native.Nat.{ℕ}
 use mathlib.Core.Bool.{Bool, true, not, cond}
-use mathlib.Core.List.{[], _∷_}
+use mathlib.Core.List.{List, [], _∷_}
 use lib.Dec.{eqb}
 use lib.ListN.{getD}
 use Rattle.arithmetic.specs.declared.AluOut.{AluOut}
@@ -33,10 +33,9 @@ flagsAfter w flags out =
     }
 
 -- a move's condition by operation number, on the flags before the instruction; 8 to 15 is always
-abbrev pub condition : ℕ → Flags → Bool
-condition op flags =
-    getD
-    (not (flags .carry)  -- 0: no C
+abbrev pub conditions : Flags → List Bool
+conditions flags =
+    not (flags .carry)  -- 0: no C
     ∷ flags .carry  -- 1: C
     ∷ not (flags .overflow)  -- 2: no V
     ∷ flags .overflow  -- 3: V
@@ -44,9 +43,10 @@ condition op flags =
     ∷ flags .zero  -- 5: Z
     ∷ not (flags .negative)  -- 6: no N
     ∷ flags .negative  -- 7: N
-    ∷ [])
-    op
-    true
+    ∷ []
+
+abbrev pub condition : ℕ → Flags → Bool
+condition op flags = getD (conditions flags) op true
 
 -- whether the result is stored: of a move by its condition, of any other instruction always
 unfoldable pub stores : ℕ → Flags → Bool

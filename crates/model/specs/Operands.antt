@@ -8,7 +8,8 @@ use Rattle.model.specs.declared.Operand.{Operand}
 use Rattle.model.specs.declared.Operand.the-variants.{Direct, Indirect, Before, After}
 use Rattle.model.specs.Words.{inc, dec, field, wordAt, present, storeWord}
 
--- the modes: 0 direct, 1 indirect, 2 indirect after decrement (the register steps down before), 3 indirect then increment (it steps up after)
+-- the modes: 0 direct, 1 indirect, 2 indirect after decrement (the register steps down before), 3 indirect then increment (it steps up
+-- after)
 abbrev pub operand : (mode register : ℕ) → Operand
 operand mode register =
     getD (Direct register ∷ Indirect register ∷ Before register ∷ []) mode (After register)

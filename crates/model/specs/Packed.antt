@@ -1,10 +1,11 @@
 -- The four flags as four numbers, and as the bits of one number in the order in which an instruction word permits them: Z, N, V, C from bit
--- 0. Document 01, "Machine and instruction word".
-use Prim.Native.Nat.{ℕ, _+_, _*_}
+-- 0. The latches of a gate state as numbers. Document 01, "Machine and instruction word" and "Clocks".
+use Prim.Native.Nat.{ℕ}
 use mathlib.Core.Bool.{false}
 use mathlib.Core.List.{List, [], _∷_}
-use Rattle.arithmetic.specs.Words.{asNumber}
+use Rattle.arithmetic.specs.Words.{asNumber, nibble}
 use Rattle.model.specs.declared.Flags.{Flags}
+use Rattle.model.specs.declared.GateState.{GateState}
 use Rattle.model.specs.Words.{bit}
 
 abbrev pub noFlags : Flags
@@ -15,8 +16,22 @@ abbrev pub flagNumbers : Flags → List ℕ
 flagNumbers f = asNumber (f .carry) ∷ asNumber (f .overflow) ∷ asNumber (f .negative) ∷ asNumber (f .zero) ∷ []
 
 unfoldable pub packedOf : Flags → ℕ
-packedOf f = 8 * asNumber (f .carry) + 4 * asNumber (f .overflow) + 2 * asNumber (f .negative) + asNumber (f .zero)
+packedOf f = nibble (f .carry) (f .overflow) (f .negative) (f .zero)
 
 -- the flags that a number's low four bits stand for
 unfoldable pub flagsOf : ℕ → Flags
 flagsOf n = record { carry = bit n 3; overflow = bit n 2; negative = bit n 1; zero = bit n 0 }
+
+-- what a gate state has beside registers and flags, as nine numbers
+unfoldable pub latchWords : GateState → List ℕ
+latchWords s =
+    s .row
+    ∷ s .instruction
+    ∷ s .address
+    ∷ s .a
+    ∷ s .b
+    ∷ s .result
+    ∷ s .position
+    ∷ asNumber (s .begun)
+    ∷ s .left
+    ∷ []

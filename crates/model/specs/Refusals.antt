@@ -1,5 +1,5 @@
--- Why a call is turned down: the reasons' numbers, the limits, and the first reason that applies to each run. Document 01, "Why a call is
--- turned down".
+-- Why a call is turned down: the reasons' numbers, what a call leaves, the limits, and the first reason that applies to each run. Document
+-- 01, "Why a call is turned down".
 use Prim.Native.Nat.{ℕ, _*_}
 use mathlib.Core.Bool.{Bool, true, false, cond, _&&_}
 use mathlib.Core.List.{List}
@@ -10,7 +10,7 @@ use Rattle.model.specs.declared.Refusal.{Refusal}
 use Rattle.model.specs.declared.Refusal.the-variants.{NoWords, TooManyWords, LongWaitList, BadGateState, TooManyInstructions, ShortJournal, ShortOutput, CutImage, WrongTag, WrongLength, WrongVersion, BadFlag, BadWordCount, ShortMemory, TrailingBytes}
 use Rattle.model.specs.declared.Verdict.{Verdict}
 use Rattle.model.specs.declared.Verdict.the-variants.{Accepted, Refused}
-use Rattle.model.specs.Gates.{isAccess}
+use Rattle.model.specs.GateMachine.{isAccess}
 
 abbrev pub refusalNumber : Refusal → ℕ
 refusalNumber NoWords = 1
@@ -33,6 +33,11 @@ refusalNumber TrailingBytes = 15
 abbrev pub verdictNumber : Verdict → ℕ
 verdictNumber Accepted = 0
 verdictNumber (Refused why) = refusalNumber why
+
+-- what a call leaves of what it was lent: what it makes of it where it is carried out, or as it was
+abbrev pub leftBy : Verdict → (made former : List ℕ) → List ℕ
+leftBy Accepted made former = made
+leftBy (Refused why) made former = former
 
 abbrev pub mostWords : ℕ
 mostWords = 16_777_216
@@ -62,11 +67,11 @@ abbrev pub waitsFit : List ℕ → Verdict
 waitsFit waits = demand (leb (length waits) mostWaits) LongWaitList
 
 -- 4: a row above 11, a position above 65,536, an access begun outside rows 1, 4, 6, 9 or with no clocks left, clocks left with none begun
-abbrev pub accessFits : GateState → Bool
-accessFits s = cond (s .begun) (isAccess (s .row) && ltb 0 (s .left)) (eqb (s .left) 0)
+abbrev pub accessFormed : GateState → Bool
+accessFormed s = cond (s .begun) (isAccess (s .row) && ltb 0 (s .left)) (eqb (s .left) 0)
 
 abbrev pub stateFits : GateState → Verdict
-stateFits s = demand (leb (s .row) 11 && leb (s .position) mostWaits && accessFits s) BadGateState
+stateFits s = demand (leb (s .row) 11 && leb (s .position) mostWaits && accessFormed s) BadGateState
 
 -- 5 and 6, of a file run of n instructions
 abbrev pub journalFits : List ℕ → ℕ → Verdict

@@ -4,8 +4,8 @@ use step_table::ACCESS;
 use step_table::LAST_ROW;
 use step_table::steps;
 ghost use mathlib.Core.Path.{_≡_};
-ghost use Rattle.model.specs.Gates.{isAccess};
-ghost use Rattle.model.specs.Refusals.{accessFits};
+ghost use Rattle.model.specs.GateMachine.{isAccess};
+ghost use Rattle.model.specs.Refusals.{accessFormed};
 
 // What the step table marks as an access; past the table there is none.
 fn is_access(row: u8) -> bool
@@ -20,8 +20,8 @@ fn is_access(row: u8) -> bool
 }
 
 // A begun access stands in an access row with clocks left; where none is begun, none are left.
-pub fn access_fits(s: GateState) -> bool
-    ensures { λ r. ⌜ r ≡ accessFits s ⌝ }
+pub fn access_formed(s: GateState) -> bool
+    ensures { λ r. ⌜ r ≡ accessFormed s ⌝ }
 {
     if s.begun {
         return is_access(s.row) & (0 < s.left);

@@ -1,7 +1,7 @@
 // Why a call is turned down, as code: what is demanded of the borrowed slices, in the order of document 01's numbers.
 mod gate_state;
 
-use gate_state::access_fits;
+use gate_state::access_formed;
 use model::GateState;
 use model::Refusal;
 use model::Verdict;
@@ -83,7 +83,7 @@ fn state_fits(s: GateState) -> Verdict
     ensures { λ r. ⌜ r ≡ stateFits s ⌝ }
 {
     demand(
-        (s.row <= LAST_ROW) & (s.position as usize <= MOST_WAITS) & access_fits(s),
+        (s.row <= LAST_ROW) & (s.position as usize <= MOST_WAITS) & access_formed(s),
         Refusal::BadGateState,
     )
 }

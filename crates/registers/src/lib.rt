@@ -1,4 +1,5 @@
-// An operand's register: its word, a store into it, its steps before and after the access; the program counter's step. Leaves that both engines use.
+// An operand's register: its word, a store into it, its steps before and after the access; the program counter's step. Leaves that both
+// engines use.
 use model::Operand;
 use operands::register_of;
 ghost use mathlib.Core.Path.{_≡_};

@@ -1,2 +1,2 @@
-pub mod OperandLaws
-pub mod StepLaws
+mod Operands
+mod Steps

@@ -5,14 +5,14 @@ use Prim.Native.Nat.{ℕ}
 use mathlib.Core.Path.{_≡_}
 use mathlib.Core.Bool.{Bool, true, false, cond, _&&_}
 use mathlib.Core.List.{List}
-use Rattle.model.specs.declared.Flags.{Flags}
+use Rattle.arithmetic.specs.declared.AluOut.{AluOut}
 use Rattle.model.specs.declared.Machine.{Machine}
 use Rattle.model.specs.declared.Operand.{Operand}
 use Rattle.model.specs.declared.Operand.the-variants.{Direct}
 use Rattle.model.specs.Words.{inc, storeWord}
 use Rattle.model.specs.Operands.{inMemory, stepDown, stepUp, registerWord, operandPresent, operandValue, storeInRegister}
 use Rattle.model.specs.Alu.{alu, flagsAfter, stores}
-use Rattle.model.specs.Interpreter.{instruction, opA, opB, regsB, valueA, valueB, addressB, inside, isStored, storesToMemory, nextMemory, nextMachine}
+use Rattle.model.specs.Interpreter.{machine, instruction, opA, opB, regsB, valueA, valueB, addressB, inside, isStored, nextMemory, nextMachine}
 use Rattle.model.specs.Journal.{noted}
 use Rattle.model.specs.Packed.{noFlags, packedOf, flagsOf}
 use Rattle.step.specs.declared.take.Taken.{Taken}
@@ -32,19 +32,16 @@ pub record Takes (o : Operand) (regs memory regs′ : List ℕ) (t : Taken) : Ty
   pub result : t ≡ takenOf o (stepDown o regs) memory
   pub registers : regs′ ≡ cond (operandPresent o (stepDown o regs) memory) (stepDown o regs) regs
 
-abbrev pub machine : List ℕ → Flags → Machine
-machine regs flags = record { regs = regs; flags = flags }
-
 -- ---- (i) to (iii), which look at no flag
 
 abbrev pub bare : List ℕ → Machine
 bare regs = machine regs noFlags
 
 abbrev pub nothing : Fetched
-nothing = record { inside = false; word = 0; oa = Direct 0; ob = Direct 0; a = 0; b = 0; place = 0 }
+nothing = record { inside = false; word = 0; oa = Direct 0; ob = Direct 0; a = 0; b = 0; address = 0 }
 
 abbrev pub fetchedOf : List ℕ → List ℕ → Fetched
-fetchedOf memory regs =
+fetchedOf regs memory =
     let m = bare regs in
     record {
       inside = true;
@@ -53,55 +50,67 @@ fetchedOf memory regs =
       ob = opB memory m;
       a = valueA memory m;
       b = valueB memory m;
-      place = addressB memory m;
+      address = addressB memory m;
     }
 
-pub record Fetches (memory regs regs′ : List ℕ) (f : Fetched) : Type 0 where
-  pub result : f ≡ cond (inside memory (bare regs)) (fetchedOf memory regs) nothing
+pub record Fetches (regs memory regs′ : List ℕ) (f : Fetched) : Type 0 where
+  pub result : f ≡ cond (inside memory (bare regs)) (fetchedOf regs memory) nothing
   pub registers : regs′ ≡ cond (inside memory (bare regs)) (regsB memory (bare regs)) regs
 
 -- ---- (iv) to (vi)
 
-pub record Notes (journal : List ℕ) (pairs place former : ℕ) (journal′ : List ℕ) (r : ℕ) : Type 0 where
-  pub places : journal′ ≡ noted journal pairs place former
+pub record Notes (journal : List ℕ) (pairs address former : ℕ) (journal′ : List ℕ) (r : ℕ) : Type 0 where
+  pub places : journal′ ≡ noted journal pairs address former
   pub count : r ≡ inc pairs
 
-pub record Puts (stored : Bool) (f : Fetched) (x pairs : ℕ) (regs memory journal regs′ memory′ journal′ : List ℕ) (r : ℕ) : Type 0 where
-  pub registers : regs′ ≡ cond stored (storeInRegister (f .ob) x regs) regs
-  pub words : memory′ ≡ cond stored (cond (inMemory (f .ob)) (storeWord memory (f .place) x) memory) memory
-  pub places : journal′ ≡ cond (stored && inMemory (f .ob)) (noted journal pairs (f .place) (f .b)) journal
-  pub count : r ≡ cond (stored && inMemory (f .ob)) (inc pairs) pairs
+-- what a put of x into B leaves, where it is stored: the registers, the memory, the journal and the number of its pairs
+abbrev pub putRegisters : Bool → Fetched → ℕ → List ℕ → List ℕ
+putRegisters stored f x regs = cond stored (storeInRegister (f .ob) x regs) regs
+
+abbrev pub putWords : Bool → Fetched → ℕ → List ℕ → List ℕ
+putWords stored f x memory = cond stored (cond (inMemory (f .ob)) (storeWord memory (f .address) x) memory) memory
+
+abbrev pub putPlaces : Bool → Fetched → ℕ → List ℕ → List ℕ
+putPlaces stored f pairs journal = cond (stored && inMemory (f .ob)) (noted journal pairs (f .address) (f .b)) journal
+
+abbrev pub putCount : Bool → Fetched → ℕ → ℕ
+putCount stored f pairs = cond (stored && inMemory (f .ob)) (inc pairs) pairs
+
+pub record PutsResult (stored : Bool) (f : Fetched) (x pairs : ℕ) (regs memory journal regs′ memory′ journal′ : List ℕ) (r : ℕ) : Type 0 where
+  pub registers : regs′ ≡ putRegisters stored f x regs
+  pub words : memory′ ≡ putWords stored f x memory
+  pub places : journal′ ≡ putPlaces stored f pairs journal
+  pub count : r ≡ putCount stored f pairs
+
+-- what is computed, and whether it is stored
+abbrev pub computedOf : ℕ → Fetched → AluOut
+computedOf flags f = alu (f .word) (flagsOf flags) (f .a) (f .b)
+
+abbrev pub storedOf : ℕ → Fetched → Bool
+storedOf flags f = stores (f .word) (flagsOf flags)
 
 abbrev pub finishedOf : ℕ → ℕ → Fetched → Stepped
 finishedOf pairs flags f =
     record {
       inside = true;
-      flags = packedOf (flagsAfter (f .word) (flagsOf flags) (alu (f .word) (flagsOf flags) (f .a) (f .b)));
+      flags = packedOf (flagsAfter (f .word) (flagsOf flags) (computedOf flags f));
       oa = f .oa;
       ob = f .ob;
-      stored = stores (f .word) (flagsOf flags);
-      pairs = cond (stores (f .word) (flagsOf flags) && inMemory (f .ob)) (inc pairs) pairs;
+      stored = storedOf flags f;
+      pairs = putCount (storedOf flags f) f pairs;
     }
 
 pub record Finishes (regs memory journal : List ℕ) (pairs flags : ℕ) (f : Fetched) (regs′ memory′ journal′ : List ℕ) (s : Stepped) : Type 0 where
   pub result : s ≡ finishedOf pairs flags f
-  pub registers : regs′
-      ≡ stepUp (f .ob) (stepUp (f .oa)
-      (cond (stores (f .word) (flagsOf flags)) (storeInRegister (f .ob) (alu (f .word) (flagsOf flags) (f .a) (f .b) .result) regs) regs))
-  pub words : memory′
-      ≡ cond (stores (f .word) (flagsOf flags))
-      (cond (inMemory (f .ob)) (storeWord memory (f .place) (alu (f .word) (flagsOf flags) (f .a) (f .b) .result)) memory)
-      memory
-  pub places : journal′ ≡ cond (stores (f .word) (flagsOf flags) && inMemory (f .ob)) (noted journal pairs (f .place) (f .b)) journal
+  pub registers : regs′ ≡ stepUp (f .ob) (stepUp (f .oa) (putRegisters (storedOf flags f) f (computedOf flags f .result) regs))
+  pub words : memory′ ≡ putWords (storedOf flags f) f (computedOf flags f .result) memory
+  pub places : journal′ ≡ putPlaces (storedOf flags f) f pairs journal
 
 -- ---- one instruction
 
 -- the journal after it
 abbrev pub journaled : List ℕ → Machine → List ℕ → ℕ → List ℕ
-journaled memory m journal pairs =
-    cond (storesToMemory memory m)
-    (noted journal pairs (addressB memory m) (valueB memory m))
-    journal
+journaled memory m journal pairs = putPlaces (isStored memory m) (fetchedOf (m .regs) memory) pairs journal
 
 abbrev pub stoppedAt : ℕ → ℕ → Stepped
 stoppedAt flags pairs = record { inside = false; flags = flags; oa = Direct 0; ob = Direct 0; stored = false; pairs = pairs }
@@ -114,7 +123,7 @@ steppedOf memory m pairs =
       oa = opA memory m;
       ob = opB memory m;
       stored = isStored memory m;
-      pairs = cond (storesToMemory memory m) (inc pairs) pairs;
+      pairs = putCount (isStored memory m) (fetchedOf (m .regs) memory) pairs;
     }
 
 pub record Steps (regs memory journal : List ℕ) (pairs flags : ℕ) (regs′ memory′ journal′ : List ℕ) (s : Stepped) : Type 0 where

@@ -18,7 +18,7 @@ pub struct Fetched {
     pub ob: Operand,
     pub a: u32,
     pub b: u32,
-    pub place: u32,
+    pub address: u32,
 }
 
 fn absent() -> Fetched
@@ -31,13 +31,13 @@ fn absent() -> Fetched
         ob: Operand::Direct(0),
         a: 0,
         b: 0,
-        place: 0,
+        address: 0,
     }
 }
 
 // Where an address is absent the registers are put back, the last step first.
 pub fn fetch(regs: &mut [u32; 8], memory: &[u32]) -> Fetched
-    ensures { λ r. ⌜ Fetches (now (memory .entry)) (now (regs .entry)) (now (regs .exit)) r ⌝ }
+    ensures { λ r. ⌜ Fetches (now (regs .entry)) (now (memory .entry)) (now (regs .exit)) r ⌝ }
 {
     let pc = regs[0];
     let at = wide(pc);
@@ -67,6 +67,6 @@ pub fn fetch(regs: &mut [u32; 8], memory: &[u32]) -> Fetched
         ob,
         a: a.value,
         b: b.value,
-        place: b.word,
+        address: b.word,
     }
 }

@@ -1,10 +1,10 @@
 // Compute, set flags, store, step up: (iv) to (vi).
 use super::Stepped;
-use super::compute::compute;
 use super::fetch::Fetched;
 use super::put::put;
-use effects::set_flags;
-use effects::stores_on;
+use super::unit::unit_of;
+use effects::flags_after_packed;
+use effects::stores_packed;
 use registers::step_up;
 ghost use Rattle.step.specs.Steps.{Finishes};
 
@@ -22,9 +22,9 @@ pub fn finish(
     let word = f.word;
     let oa = f.oa;
     let ob = f.ob;
-    let stored = stores_on(word, flags);
-    let out = compute(word, flags, f.a, f.b);
-    let after = set_flags(word, flags, out);
+    let stored = stores_packed(word, flags);
+    let out = unit_of(word, flags, f.a, f.b);
+    let after = flags_after_packed(word, flags, out);
     let noted = put(
         stored,
         f,

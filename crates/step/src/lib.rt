@@ -1,9 +1,9 @@
 // One instruction of the machine, in the order (i) to (vi) of document 01.
-mod compute;
 mod fetch;
 mod finish;
 mod put;
 mod take;
+mod unit;
 
 use fetch::fetch;
 use finish::finish;

@@ -4,14 +4,14 @@ use operands::in_memory;
 use operands::store;
 use operands::wide;
 use registers::set_register;
-ghost use Rattle.step.specs.Steps.{Notes, Puts};
+ghost use Rattle.step.specs.Steps.{Notes, PutsResult};
 
 // One pair more. Returns the number of pairs.
-fn note(journal: &mut [u32], pairs: u32, place: u32, former: u32) -> u32
-    ensures { λ r. ⌜ Notes (now (journal .entry)) pairs place former (now (journal .exit)) r ⌝ }
+fn note(journal: &mut [u32], pairs: u32, address: u32, former: u32) -> u32
+    ensures { λ r. ⌜ Notes (now (journal .entry)) pairs address former (now (journal .exit)) r ⌝ }
 {
     let at = 2 * wide(pairs);
-    store(&mut *journal, at, place);
+    store(&mut *journal, at, address);
     store(&mut *journal, at + 1, former);
     std::num::wrapping_add_u32(pairs, 1)
 }
@@ -26,15 +26,15 @@ pub fn put(
     memory: &mut [u32],
     journal: &mut [u32],
 ) -> u32
-    ensures { λ r. ⌜ Puts stored f x pairs (now (regs .entry)) (now (memory .entry)) (now (journal .entry)) (now (regs .exit)) (now (memory .exit)) (now (journal .exit)) r ⌝ }
+    ensures { λ r. ⌜ PutsResult stored f x pairs (now (regs .entry)) (now (memory .entry)) (now (journal .entry)) (now (regs .exit)) (now (memory .exit)) (now (journal .exit)) r ⌝ }
 {
     if !stored {
         return pairs;
     }
     let ob = f.ob;
     if in_memory(ob) {
-        store(&mut *memory, wide(f.place), x);
-        return note(&mut *journal, pairs, f.place, f.b);
+        store(&mut *memory, wide(f.address), x);
+        return note(&mut *journal, pairs, f.address, f.b);
     }
     set_register(ob, x, &mut *regs);
     pairs

@@ -41,8 +41,8 @@ abbrev pub skippedRow : Step → ℕ
 skippedRow step = step .2
 
 -- the control marks
-abbrev pub accesses : Step → Bool
-accesses step = eqb (step .3) 1
+abbrev pub marksAccess : Step → Bool
+marksAccess step = eqb (step .3) 1
 
-abbrev pub finishes : Step → Bool
-finishes step = eqb (step .3) 2
+abbrev pub marksFinish : Step → Bool
+marksFinish step = eqb (step .3) 2

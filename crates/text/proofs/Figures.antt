@@ -9,8 +9,8 @@ use lib.Dec.{ltb}
 use lib.ListN.{length, set, length-append}
 use lib.Seq.{sets}
 use borrow.Author.Tests.{lt-ltb, le-ltb, ltb-false}
-use Rattle.text.specs.Text.{digit, digits, places, decimal}
-use Rattle.text.proofs.Stores.{last-first}
+use Rattle.model.proofs.Stores.{last-first}
+use Rattle.text.specs.Text.{digit, digits, digitCount, decimal}
 
 module _ (base : ℕ) where
   pub length-digits : (count n : ℕ) → length (digits base count n) ≡ count
@@ -35,30 +35,30 @@ module _ (base : ℕ) where
       let one-more : suc (left - 1) ≡ left = omega arith in
       rw (stored, e) (lowest-first out at (left - 1) n ∙ ap (λ (k : ℕ). sets out at (digits base k n)) one-more ∙ before)
 
-pub places-one : (turns n : ℕ) → n < 10 → places turns n ≡ 1
-unfolding places
+pub places-one : (turns n : ℕ) → n < 10 → digitCount turns n ≡ 1
+unfolding digitCount
 places-one zero n h = refl
 places-one (suc turns) n h = rw (lt-ltb n 10 h)
 
-places-more : (turns n : ℕ) → 10 ≤ n → places (suc turns) n ≡ suc (places turns (n / 10))
-unfolding places
+places-more : (turns n : ℕ) → 10 ≤ n → digitCount (suc turns) n ≡ suc (digitCount turns (n / 10))
+unfolding digitCount
 places-more turns n h = rw (le-ltb n 10 h)
 
 -- a turn of the loop that counts
 pub places-turn : (n count rest : ℕ) → 10 ≤ rest → rest + count ≤ n + 1
-    → count + 1 + places (n + 1 - (count + 1)) (rest / 10) ≡ count + places (n + 1 - count) rest
+    → count + 1 + digitCount (n + 1 - (count + 1)) (rest / 10) ≡ count + digitCount (n + 1 - count) rest
 places-turn n count rest h within =
     let turns : n + 1 - count ≡ suc (n + 1 - (count + 1)) = omega arith in
     rw turns (omega (arith, places-more (n + 1 - (count + 1)) rest h))
 
 -- a number below a power of ten has at most as many digits
-pub places-le : (turns k n : ℕ) → n < 10 ^ suc k → places turns n ≤ suc k
-unfolding places
+pub places-le : (turns k n : ℕ) → n < 10 ^ suc k → digitCount turns n ≤ suc k
+unfolding digitCount
 places-le zero k n h = omega arith
 places-le (suc turns) k n h = go (ltb n 10) refl k h (λ k m h. places-le turns k m h)
   where
-    go : (t : Bool) → ltb n 10 ≡ t → (k : ℕ) → n < 10 ^ suc k → ((k m : ℕ) → m < 10 ^ suc k → places turns m ≤ suc k)
-        → cond t 1 (suc (places turns (n / 10))) ≤ suc k
+    go : (t : Bool) → ltb n 10 ≡ t → (k : ℕ) → n < 10 ^ suc k → ((k m : ℕ) → m < 10 ^ suc k → digitCount turns m ≤ suc k)
+        → cond t 1 (suc (digitCount turns (n / 10))) ≤ suc k
     go true e k h less = omega arith
     go false e zero h less = omega (arith, ltb-false n 10 e)
     go false e (suc k) h less =
@@ -66,4 +66,4 @@ places-le (suc turns) k n h = go (ltb n 10) refl k h (λ k m h. places-le turns 
         omega (arith, less k (n / 10) (div-lt-iff-lt-mul (omega arith) .1 h′))
 
 pub decimal-le : (k n : ℕ) → n < 10 ^ suc k → length (decimal n) ≤ suc k
-decimal-le k n h = omega (arith, length-digits 10 (places n n) n, places-le n k n h)
+decimal-le k n h = omega (arith, length-digits 10 (digitCount n n) n, places-le n k n h)

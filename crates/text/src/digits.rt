@@ -1,9 +1,10 @@
-// Digits of a number in a base of at most 16.
+// Digits of a number in a base of at most 16, and the digit of a flag.
 ghost use mathlib.Core.Path.{_≡_};
 ghost use Prim.Native.Nat.{_≤_, _<_};
 ghost use lib.ListN.{set};
 ghost use lib.Seq.{sets};
-ghost use Rattle.text.specs.Text.{digit, digits, places};
+ghost use Rattle.arithmetic.specs.Words.{asNumber};
+ghost use Rattle.text.specs.Text.{digit, digits, digitCount};
 
 pub fn put_byte(out: &mut [u8], at: usize, byte: u8)
     ensures { λ _. ⌜ now (out .exit) ≡ set (now (out .entry)) at byte ⌝ }
@@ -24,6 +25,12 @@ fn digit_of(d: u64) -> u8
     }
 }
 
+pub fn flag_digit(flag: bool) -> u8
+    ensures { λ r. ⌜ r ≡ digit (asNumber flag) ⌝ }
+{
+    if flag { b'1' } else { b'0' }
+}
+
 // The last count digits of n, from the lowest up.
 pub fn put_digits(out: &mut [u8], at: usize, base: u64, count: usize, n: u64)
     requires { ⌜ (0 < base) × (base ≤ 16) × (count ≤ 20) ⌝ }
@@ -41,8 +48,8 @@ pub fn put_digits(out: &mut [u8], at: usize, base: u64, count: usize, n: u64)
 }
 
 // How many decimal digits n has.
-pub fn count_places(n: u64) -> usize
-    ensures { λ r. ⌜ r ≡ places n n ⌝ }
+pub fn count_digits(n: u64) -> usize
+    ensures { λ r. ⌜ r ≡ digitCount n n ⌝ }
 {
     let mut count = 1;
     let mut rest = n;

@@ -2,10 +2,12 @@
 // each answers how long its text is.
 mod digits;
 
-use digits::count_places;
+use digits::count_digits;
+use digits::flag_digit;
 use digits::put_byte;
 use digits::put_digits;
-ghost use Rattle.text.specs.Text.{decimal, hexadecimal, Puts};
+use model::Flags;
+ghost use Rattle.text.specs.Text.{decimal, hexadecimal, flagDigits, Puts};
 
 // Plain bytes.
 pub fn put_text(out: &mut [u8], at: usize, text: &[u8]) -> usize
@@ -25,7 +27,7 @@ pub fn put_text(out: &mut [u8], at: usize, text: &[u8]) -> usize
 pub fn put_decimal(out: &mut [u8], at: usize, n: u64) -> usize
     ensures { λ r. ⌜ Puts (now (out .entry)) at (decimal n) (now (out .exit)) r ⌝ }
 {
-    let count = count_places(n);
+    let count = count_digits(n);
     put_digits(out, at, 10, count, n);
     count
 }
@@ -36,4 +38,15 @@ pub fn put_hexadecimal(out: &mut [u8], at: usize, word: u32) -> usize
 {
     put_digits(out, at, 16, 8, word as u64);
     8
+}
+
+// The flags as digits, in the order C, V, N, Z.
+pub fn put_flag_digits(out: &mut [u8], at: usize, flags: Flags) -> usize
+    ensures { λ r. ⌜ Puts (now (out .entry)) at (flagDigits flags) (now (out .exit)) r ⌝ }
+{
+    let c = flag_digit(flags.carry);
+    let v = flag_digit(flags.overflow);
+    let n = flag_digit(flags.negative);
+    let z = flag_digit(flags.zero);
+    put_text(out, at, &[c, v, n, z])
 }

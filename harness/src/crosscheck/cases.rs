@@ -12,8 +12,7 @@ const STATES: usize = 160;
 const IMAGES: usize = 160;
 
 /// The program's limits.
-const MOST_WORDS: usize = 64;
-const MOST_WAITS: usize = 64;
+const MOST_LIST: usize = 64;
 const MOST_ROOM: usize = 2_100;
 const MOST_BYTES: usize = 8_500;
 
@@ -33,8 +32,8 @@ pub fn cases() -> Vec<Case> {
 /// Waits are shortened, as the gate runs would be long otherwise.
 fn small_program(rng: &mut Rng) -> Program {
     let mut program = any_program(rng);
-    assert!(program.memory.len() <= MOST_WORDS);
-    program.waits.truncate(MOST_WAITS);
+    assert!(program.memory.len() <= MOST_LIST);
+    program.waits.truncate(MOST_LIST);
     for wait in &mut program.waits {
         *wait %= 1_000;
     }

@@ -3,7 +3,7 @@
 use super::Case;
 use reference::generate::program::Program;
 use reference::image::to_bytes;
-use reference::refusal::WAIT_LIMIT;
+use reference::refusal::MOST_WAITS;
 use reference::{Flags, GateState, Instruction, Machine, Operand};
 
 const ALL: Flags = Flags {
@@ -82,7 +82,7 @@ fn highest_position() -> Case {
         memory: vec![0x0001_0021, 0],
         waits: vec![3, 1],
         state: GateState {
-            position: WAIT_LIMIT as u32,
+            position: MOST_WAITS as u32,
             ..GateState::default()
         },
         clocks: 12,

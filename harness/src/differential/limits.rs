@@ -3,7 +3,7 @@
 use super::{expected, proved, Check};
 use fm8502::library;
 use reference::image::image_size;
-use reference::refusal::MEMORY_LIMIT;
+use reference::refusal::MOST_WORDS;
 use reference::Machine;
 
 const TOO_MANY_WORDS: u32 = 2;
@@ -19,23 +19,23 @@ fn agree(call: &str, equal: bool) -> Check {
         return Ok(());
     }
     Err(format!(
-        "{call} differs on a memory of {MEMORY_LIMIT} words\n"
+        "{call} differs on a memory of {MOST_WORDS} words\n"
     ))
 }
 
 /// A program that reads and writes the last word and then leaves the memory.
 fn check_longest() -> Check {
-    let mut memory = vec![0; MEMORY_LIMIT];
+    let mut memory = vec![0; MOST_WORDS];
     memory[0] = 0x0001_0129; // inc (r1),(r1)
     memory[1] = 0x0001_0339; // inc (r1)+,(r1)+
     memory[2] = memory[0];
-    memory[MEMORY_LIMIT - 1] = 41;
+    memory[MOST_WORDS - 1] = 41;
     let mut machine = Machine::default();
-    machine.registers[1] = MEMORY_LIMIT as u32 - 1;
+    machine.registers[1] = MOST_WORDS as u32 - 1;
     let ran = proved::run(&memory, &[], &machine, 9);
     agree("run", ran == expected::run(&memory, &[], &machine, 9))?;
     drop(ran);
-    let room = image_size(MEMORY_LIMIT);
+    let room = image_size(MOST_WORDS);
     let written = proved::image_write(&memory, &machine, room);
     let equal = written == expected::image_write(&memory, &machine, room);
     agree("image write", equal)?;
@@ -46,7 +46,7 @@ fn check_longest() -> Check {
 }
 
 fn check_too_long() -> Check {
-    let mut memory = vec![0; MEMORY_LIMIT + 1];
+    let mut memory = vec![0; MOST_WORDS + 1];
     let (mut machine, mut state) = ([0; 12], [0; 21]);
     let (mut two, mut one) = ([7; 2], [7; 1]);
     let codes = [

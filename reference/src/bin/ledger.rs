@@ -2,13 +2,13 @@
 
 use std::io::{self, Read, Write};
 
-use reference::ledger::{ledger, INPUT_LIMIT};
+use reference::ledger::{ledger, MOST_INPUT};
 
 fn main() -> io::Result<()> {
     let mut image = Vec::new();
     io::stdin()
         .lock()
-        .take(INPUT_LIMIT as u64)
+        .take(MOST_INPUT as u64)
         .read_to_end(&mut image)?;
     io::stdout().write_all(ledger(&image).as_bytes())
 }

@@ -5,7 +5,7 @@ use std::io::{self, IsTerminal, Write};
 use std::process::ExitCode;
 
 use reference::image;
-use reference::refusal::MEMORY_LIMIT;
+use reference::refusal::MOST_WORDS;
 use reference::{Flags, Machine};
 
 const HELP: &str = "\
@@ -91,7 +91,7 @@ fn carry_out(request: Request) -> Result<(), String> {
         return Err("no words given: an image has at least one".into());
     }
     let bytes = image::to_bytes(&request.machine, &memory)
-        .map_err(|_| format!("more than {MEMORY_LIMIT} words given"))?;
+        .map_err(|_| format!("more than {MOST_WORDS} words given"))?;
     write_image(&bytes, request.output.as_deref())
 }
 
@@ -132,9 +132,9 @@ fn hexadecimal(text: &str) -> Result<u32, String> {
 
 fn memory_length(text: &str) -> Result<usize, String> {
     match text.parse() {
-        Ok(length @ 1..=MEMORY_LIMIT) => Ok(length),
+        Ok(length @ 1..=MOST_WORDS) => Ok(length),
         _ => Err(format!(
-            "memory '{text}' is not a number from 1 to {MEMORY_LIMIT}"
+            "memory '{text}' is not a number from 1 to {MOST_WORDS}"
         )),
     }
 }

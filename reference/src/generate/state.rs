@@ -2,7 +2,7 @@
 
 use super::flags;
 use crate::gates::GateState;
-use crate::refusal::WAIT_LIMIT;
+use crate::refusal::MOST_WAITS;
 use crate::rng::Rng;
 
 /// An accepted state in any row, for a memory of `words` words and a wait list
@@ -16,9 +16,9 @@ pub fn gate_state(rng: &mut Rng, words: usize, entries: usize) -> GateState {
         _ => rng.between(1, 5) as u16,
     };
     let position = match rng.below(5) {
-        0 => rng.below(WAIT_LIMIT + 1),
-        1 => entries.min(WAIT_LIMIT),
-        _ => rng.below(entries.min(WAIT_LIMIT) + 1),
+        0 => rng.below(MOST_WAITS + 1),
+        1 => entries.min(MOST_WAITS),
+        _ => rng.below(entries.min(MOST_WAITS) + 1),
     };
     GateState {
         registers: [(); 8].map(|()| latch(rng, words)),
@@ -42,7 +42,7 @@ pub fn refused_gate_state(rng: &mut Rng, words: usize, entries: usize) -> GateSt
         0 => state.row = rng.between(12, 255) as u8,
         1 => {
             state.position = if rng.flag() {
-                WAIT_LIMIT as u32 + 1
+                MOST_WAITS as u32 + 1
             } else {
                 rng.word() | 0x0002_0000
             }

@@ -1,4 +1,3 @@
--- The measure is how many cases may still come.
 use borrow.Author.Needs.{needs}
 use Rattle.crosscheck.proofs.main.Statement.{statement}
 use Rattle.crosscheck.proofs.main.Tie as tie

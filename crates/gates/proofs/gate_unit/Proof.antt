@@ -1,3 +1,4 @@
+use mathlib.Core.Bool.{xor}
 use native.Mathlib.Omega.{arith}
 use borrow.Author.Needs.{needs}
 use Rattle.gates.proofs.Network.{gate-by}
@@ -50,6 +51,7 @@ array-read-t43 : tie.Need-array-read-t43
 array-read-t43 c = search needs
 
 returns : tie.Need-returns
+unfolding xor
 returns c =
     let r = c .before .before .before .before .before .before .before .before .before .before .before .before .before .before .before .before .before .args in
     gate-by (r .operation) (r .a) (r .b) (c .before .before .before .from-bits .result) (r .carry) _ _ _ (c .before .before .before .before .before .before .before .before .before .before .before .before .before .before .before .control .result) _ _ _

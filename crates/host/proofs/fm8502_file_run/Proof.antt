@@ -1,5 +1,5 @@
 use borrow.Author.Needs.{needs}
-use Rattle.host.proofs.CallLaws.{file-misfit, file-fits}
+use Rattle.host.proofs.Answers.{file-misfit, file-fits}
 use Rattle.host.proofs.fm8502_file_run.Statement.{statement}
 use Rattle.host.proofs.fm8502_file_run.Tie as tie
 

@@ -1,5 +1,5 @@
 use borrow.Author.Needs.{needs}
-use Rattle.host.proofs.CallLaws.{gate-misfit, gate-fits}
+use Rattle.host.proofs.Answers.{gate-misfit, gate-fits}
 use Rattle.host.proofs.fm8502_gate_run.Statement.{statement}
 use Rattle.host.proofs.fm8502_gate_run.Tie as tie
 

@@ -1,5 +1,5 @@
 use borrow.Author.Needs.{needs}
-use Rattle.host.proofs.CallLaws.{read-misfit, read-fits}
+use Rattle.host.proofs.Answers.{read-misfit, read-fits}
 use Rattle.host.proofs.fm8502_image_read.Statement.{statement}
 use Rattle.host.proofs.fm8502_image_read.Tie as tie
 

@@ -1,5 +1,5 @@
 use borrow.Author.Needs.{needs}
-use Rattle.host.proofs.CallLaws.{write-misfit, write-fits}
+use Rattle.host.proofs.Answers.{write-misfit, write-fits}
 use Rattle.host.proofs.fm8502_image_write.Statement.{statement}
 use Rattle.host.proofs.fm8502_image_write.Tie as tie
 

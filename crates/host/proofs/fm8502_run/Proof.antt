@@ -1,5 +1,5 @@
 use borrow.Author.Needs.{needs}
-use Rattle.host.proofs.CallLaws.{run-misfit, run-fits}
+use Rattle.host.proofs.Answers.{run-misfit, run-fits}
 use Rattle.host.proofs.fm8502_run.Statement.{statement}
 use Rattle.host.proofs.fm8502_run.Tie as tie
 

@@ -1,7 +1,7 @@
 use mathlib.Core.Path.{ap}
 use borrow.Author.Needs.{needs}
 use Rattle.host_ends.specs.Codes.{gateCode}
-use Rattle.host_ends.proofs.CodeLaws.{ends-refused, ends-done}
+use Rattle.host_ends.proofs.Ends.{ends-refused, ends-done}
 use Rattle.host_ends.proofs.end_gate_run.Statement.{statement}
 use Rattle.host_ends.proofs.end_gate_run.Tie as tie
 

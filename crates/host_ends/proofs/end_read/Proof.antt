@@ -5,7 +5,7 @@ use Rattle.image.specs.declared.ReadAnswer.{ReadAnswer}
 use Rattle.image.specs.Calls.{readCount}
 use Rattle.host_words.specs.Words.{laid}
 use Rattle.host_ends.specs.Codes.{readCode}
-use Rattle.host_ends.proofs.CodeLaws.{ends-refused, ends-done}
+use Rattle.host_ends.proofs.Ends.{ends-refused, ends-done}
 use Rattle.host_ends.proofs.end_read.Statement.{statement}
 use Rattle.host_ends.proofs.end_read.Tie as tie
 

@@ -1,5 +1,5 @@
 use borrow.Author.Needs.{needs}
-use Rattle.host_ends.proofs.CodeLaws.{write-refused, write-done}
+use Rattle.host_ends.proofs.Ends.{write-refused, write-done}
 use Rattle.host_ends.proofs.end_write.Statement.{statement}
 use Rattle.host_ends.proofs.end_write.Tie as tie
 

@@ -2,7 +2,7 @@ use Prim.Native.Nat.{_-_}
 use native.Mathlib.Omega.{arith}
 use lib.ListN.{length}
 use borrow.Author.Needs.{needs}
-use Rattle.host_words.proofs.LentLaws.{Copied, copied-none, copied-more, copied-all}
+use Rattle.host_words.proofs.Copies.{Copied, copied-none, copied-more, copied-all}
 use Rattle.host_words.proofs.copy_words.Statement.{statement}
 use Rattle.host_words.proofs.copy_words.Tie as tie
 

@@ -1,6 +1,6 @@
 use mathlib.Core.Path.{_∙_}
 use borrow.Author.Needs.{needs}
-use Rattle.host_words.proofs.LaidLaws.{laid-over, laid-nowhere}
+use Rattle.host_words.proofs.Laid.{laid-over, laid-nowhere}
 use Rattle.host_words.proofs.put_machine.Statement.{statement}
 use Rattle.host_words.proofs.put_machine.Tie as tie
 

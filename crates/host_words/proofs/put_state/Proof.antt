@@ -8,8 +8,8 @@ use borrow.Author.Needs.{needs}
 use Rattle.model.specs.declared.Machine.{Machine}
 use Rattle.host_reading.specs.Layout.{machineSize}
 use Rattle.host_words.specs.Words.{machineWords}
-use Rattle.host_words.proofs.LentLaws.{parts-copied}
-use Rattle.host_words.proofs.LaidLaws.{laid-over, laid-nowhere}
+use Rattle.host_words.proofs.Copies.{parts-copied}
+use Rattle.host_words.proofs.Laid.{laid-over, laid-nowhere}
 use Rattle.host_words.proofs.put_state.Statement.{statement}
 use Rattle.host_words.proofs.put_state.Tie as tie
 

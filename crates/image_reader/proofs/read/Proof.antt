@@ -2,7 +2,7 @@ use mathlib.Core.Path.{sym, _∙_}
 use native.Mathlib.Omega.{arith}
 use lib.ListN.{length}
 use borrow.Author.Needs.{needs}
-use Rattle.image_reader.proofs.Answers.{image-accepted, read-refused, read-loaded}
+use Rattle.image_reader.proofs.Answers.{image-accepted, read-refused, read-carried}
 use Rattle.image_reader.proofs.read.Statement.{statement}
 use Rattle.image_reader.proofs.read.Tie as tie
 
@@ -48,7 +48,7 @@ same-length c = search needs
 returns-2 : tie.Need-returns-2
 returns-2 c =
     let a = c .before .before .before .before .before .before .before .before .before .before .before .args in
-    read-loaded (a .bytes .now) (a .memory .now) _ _ _ (sym (c .before .before .before .before .before .before .enum-told .given .1) ∙ c .before .before .before .before .before .before .before .before .image-verdict .ensures)
+    read-carried (a .bytes .now) (a .memory .now) _ _ _ (sym (c .before .before .before .before .before .before .enum-told .given .1) ∙ c .before .before .before .before .before .before .before .before .image-verdict .ensures)
     (c .before .before .before .before .before .word-count .ensures) (c .machine-at .ensures) (c .before .before .before .load-memory .ensures)
 
 pub read-spec : {M : Type 1} → statement M

@@ -6,7 +6,7 @@ use borrow.Author.Needs.{needs}
 use Rattle.model.proofs.Verdicts.{memory-bounds}
 use Rattle.image.specs.Format.{spanOf, imageOf}
 use Rattle.image.proofs.Inverse.{size}
-use Rattle.image_writer.proofs.Answers.{refused-memory, short-output, written}
+use Rattle.image_writer.proofs.Answers.{write-refused, write-no-room, write-carried}
 use Rattle.image_writer.proofs.write.Statement.{statement}
 use Rattle.image_writer.proofs.write.Tie as tie
 
@@ -29,7 +29,7 @@ returns : tie.Need-returns
 returns c =
     let start = c .before .before .before .before .before .before .before in
     let a = start .args in
-    short-output (a .memory .now) (a .machine) (a .out .now) (sym (c .before .before .enum-told .given .1) ∙ c .before .before .before .before .memory-fits .ensures)
+    write-no-room (a .memory .now) (a .machine) (a .out .now) (sym (c .before .before .enum-told .given .1) ∙ c .before .before .before .before .memory-fits .ensures)
     (omega (arith, c .if1 .taken, c .before .image-size .ensures, image-length start))
 
 put-image-requires : tie.Need-put-image-requires
@@ -40,7 +40,7 @@ put-image-requires c κs =
 returns-2 : tie.Need-returns-2
 returns-2 c =
     let a = c .before .before .before .before .before .before .args in
-    refused-memory (a .memory .now) (a .machine) (a .out .now) (sym (c .before .why .given .1) ∙ c .before .before .before .memory-fits .ensures)
+    write-refused (a .memory .now) (a .machine) (a .out .now) (sym (c .before .why .given .1) ∙ c .before .before .before .memory-fits .ensures)
 
 same-length : tie.Need-same-length
 same-length c = search needs
@@ -50,7 +50,7 @@ returns-3 c =
     let start = c .before .before .before .before .before .before .before .before .before .before .before in
     let a = start .args in
     let n = c .before .before .before .before .before .image-size .ensures in
-    written (a .memory .now) (a .machine) (a .out .now) (sym (c .before .before .before .before .before .before .enum-told .given .1) ∙ c .before .before .before .before .before .before .before .before .memory-fits .ensures) _ _
+    write-carried (a .memory .now) (a .machine) (a .out .now) (sym (c .before .before .before .before .before .before .enum-told .given .1) ∙ c .before .before .before .before .before .before .before .before .memory-fits .ensures) _ _
     (omega (arith, c .before .before .before .before .if1 .left, n, image-length start)) (c .before .before .put-image .ensures) (n ∙ sym (image-length start))
 
 pub write-spec : {M : Type 1} → statement M

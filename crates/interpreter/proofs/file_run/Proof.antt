@@ -1,5 +1,5 @@
 use borrow.Author.Needs.{needs}
-use Rattle.interpreter.proofs.CallLaws.{file-refused, file-finished, file-undone}
+use Rattle.interpreter.proofs.Answers.{file-refused, file-finished, file-undone}
 use Rattle.interpreter.proofs.file_run.Statement.{statement}
 use Rattle.interpreter.proofs.file_run.Tie as tie
 

@@ -1,5 +1,5 @@
 use borrow.Author.Needs.{needs}
-use Rattle.interpreter.proofs.CallLaws.{run-refused, run-carried}
+use Rattle.interpreter.proofs.Answers.{run-refused, run-carried}
 use Rattle.interpreter.proofs.run.Statement.{statement}
 use Rattle.interpreter.proofs.run.Tie as tie
 

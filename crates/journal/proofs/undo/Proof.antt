@@ -2,8 +2,8 @@ use Prim.Native.Nat.{_≤_}
 use mathlib.Core.Path.{_≡_, refl, _∙_}
 use native.Mathlib.Omega.{arith}
 use lib.ListN.{length}
-use Rattle.journal.specs.Journals.{undone}
-use Rattle.journal.proofs.JournalLaws.{undone-none, undone-more}
+use Rattle.journal.specs.Undo.{undone}
+use Rattle.journal.proofs.Journals.{undone-none, undone-more}
 use Rattle.journal.proofs.undo.Statement.{statement}
 use Rattle.journal.proofs.undo.Tie as tie
 

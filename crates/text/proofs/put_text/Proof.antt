@@ -1,14 +1,13 @@
--- The bytes still to be put in give the whole text.
-use Prim.Native.Nat.{_+_, _-_, _≤_}
-use mathlib.Core.Path.{refl, sym, _∙_}
-use mathlib.Core.Path.{_≡_}
+use Prim.Native.Nat.{ℕ, _+_, _-_, _≤_}
+use mathlib.Core.Path.{_≡_, refl, sym, ap, _∙_}
+use mathlib.Core.List.{List, [], _∷_}
 use native.Mathlib.Nat.{add-zero}
+use native.Mathlib.Numerals.{add-one}
 use native.Mathlib.Omega.{arith}
-use lib.ListN.{drop-of-length-le}
-use lib.ListN.{length, drop}
-use lib.Seq.{sets}
+use lib.ListN.{length, getD, drop, drop-of-length-le}
+use lib.Seq.{sets, drop-cons}
 use denote.Ref.{now}
-use Rattle.text.proofs.Stores.{sets-out, text-turn}
+use Rattle.model.proofs.Stores.{sets-out, store-step}
 use Rattle.text.proofs.put_text.Statement.{statement}
 use Rattle.text.proofs.put_text.Tie as tie
 
@@ -39,10 +38,14 @@ loop-less c = omega arith
 loop-again : tie.Need-loop-again Inv-loop μ-loop
 loop-again c =
     let at = c .before .before .before .before .before .before .loop in
-    let a = c .before .before .before .before .before .before .before .before .before .before .args in (
+    let a = c .before .before .before .before .before .before .before .before .before .before .args in
+    let text : List ℕ = now (a .text) in
+    let i : ℕ = at .i in
+    let byte : ℕ = getD text i 0 in
+    let rest : drop i text ≡ byte ∷ drop (i + 1) text = rw add-one (drop-cons text i 0 (c .before .before .before .before .before .loop-test .taken)) in (
       omega arith,
       c .before .before .put-byte .kept .0 ∙ at .inv .1,
-      text-turn (at .out) (a .at) (at .i) (now (a .text)) (c .before .before .before .before .before .loop-test .taken) (c .before .before .put-byte .ensures) (at .inv .2),
+      store-step (at .out) _ (a .at + i) (a .at + (i + 1)) (byte ∷ []) (drop (i + 1) text) _ (c .before .before .put-byte .ensures) (omega arith) (ap (sets (at .out) (a .at + i)) (sym rest) ∙ at .inv .2),
     )
 
 same-length : tie.Need-same-length Inv-loop μ-loop

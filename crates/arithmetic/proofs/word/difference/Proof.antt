@@ -16,15 +16,15 @@ cast-wrapping-sub-u32 c = search needs
 wrapping-sub-u32-requires-2 : tie.Need-wrapping-sub-u32-requires-2
 wrapping-sub-u32-requires-2 c κs = search needs
 
-overflow-requires : tie.Need-overflow-requires
-overflow-requires c κs = search needs
+overflow-of-requires : tie.Need-overflow-of-requires
+overflow-of-requires c κs = search needs
 
 returns : tie.Need-returns
 returns c =
     let r = c .before .before .before .args in
     let low : ℕ = c .before .before .wrapping-sub-u32 .result in
     let s : ℕ = c .before .wrapping-sub-u322 .result in
-    out-eq refl refl (c .overflow .ensures)
+    out-eq refl refl (c .overflow-of .ensures)
     ∙ difference-is 31 (r .x) (r .y) s (r .c) _ (omega arith) (omega arith) (omega arith)
     (wrapped-difference (r .x) (r .y) low s (omega arith) (omega arith) (r .c) (omega arith) (omega arith) (c .before .before .wrapping-sub-u32 .ensures) (c .before .wrapping-sub-u322 .ensures))
 
@@ -35,5 +35,5 @@ difference-spec =
     wrapping-sub-u32-requires
     cast-wrapping-sub-u32
     wrapping-sub-u32-requires-2
-    overflow-requires
+    overflow-of-requires
     returns)

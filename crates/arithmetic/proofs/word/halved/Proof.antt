@@ -2,7 +2,8 @@ use mathlib.Core.Path.{refl}
 use native.Mathlib.Omega.{arith}
 use borrow.Author.Needs.{needs}
 use Rattle.arithmetic.specs.Alu.{halvedOf}
-use Rattle.arithmetic.proofs.Sums.{out-eq, bit-le}
+use Rattle.arithmetic.proofs.Bits.{bit-le}
+use Rattle.arithmetic.proofs.Sums.{out-eq}
 use Rattle.arithmetic.proofs.word.halved.Statement.{statement}
 use Rattle.arithmetic.proofs.word.halved.Tie as tie
 

@@ -1,6 +1,6 @@
 use borrow.Author.Needs.{needs}
 use Rattle.model.specs.Packed.{flagsOf}
-use Rattle.effects.proofs.Effects.{always}
+use Rattle.model.proofs.Conditions.{always}
 use Rattle.effects.proofs.effect.condition_of.Statement.{statement}
 use Rattle.effects.proofs.effect.condition_of.Tie as tie
 

@@ -1,7 +1,7 @@
 use mathlib.Core.Path.{refl}
 use native.Mathlib.Omega.{arith}
 use borrow.Author.Needs.{needs}
-use Rattle.arithmetic.proofs.Sums.{bit-le}
+use Rattle.arithmetic.proofs.Bits.{bit-le}
 use Rattle.model.specs.Packed.{packedOf}
 use Rattle.effects.proofs.flags.packed.Statement.{statement}
 use Rattle.effects.proofs.flags.packed.Tie as tie

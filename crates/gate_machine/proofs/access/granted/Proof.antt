@@ -1,6 +1,6 @@
 use borrow.Author.Tests.{not-true, not-false, lt-ltb, le-ltb}
 use borrow.Author.Needs.{needs}
-use Rattle.model.specs.Gates.{remaining, positionNow}
+use Rattle.model.specs.GateMachine.{remaining, positionNow}
 use Rattle.gate_machine.specs.Clock.{grantOf}
 use Rattle.gate_machine.proofs.access.granted.Statement.{statement}
 use Rattle.gate_machine.proofs.access.granted.Tie as tie
@@ -35,15 +35,15 @@ returns-3 c = rw (not-false (c .before .before .before .before .before .before .
 wait-at-requires : tie.Need-wait-at-requires
 wait-at-requires c κs = search needs
 
-next-wait-requires : tie.Need-next-wait-requires
-next-wait-requires c κs = search needs
+next-position-requires : tie.Need-next-position-requires
+next-position-requires c κs = search needs
 
 acknowledged-requires-2 : tie.Need-acknowledged-requires-2
 acknowledged-requires-2 c κs = search needs
 
 returns-4 : tie.Need-returns-4
 unfolding grantOf remaining positionNow
-returns-4 c = rw (not-false (c .before .before .before .before .before .before .before .before .args .access) (c .before .before .before .before .before .before .if1 .left), lt-ltb (c .before .before .before .before .before .before .before .before .args .s .address) (c .before .before .before .before .before .before .before .before .args .words) (rw (c .before .before .before .before .before .wide .ensures) at (c .before .before .before .before .if2 .left)), c .before .before .before .if3 .left, ← (c .before .next-wait .ensures), ← (c .before .before .wait-at .ensures)) (c .acknowledged2 .ensures)
+returns-4 c = rw (not-false (c .before .before .before .before .before .before .before .before .args .access) (c .before .before .before .before .before .before .if1 .left), lt-ltb (c .before .before .before .before .before .before .before .before .args .s .address) (c .before .before .before .before .before .before .before .before .args .words) (rw (c .before .before .before .before .before .wide .ensures) at (c .before .before .before .before .if2 .left)), c .before .before .before .if3 .left, ← (c .before .next-position .ensures), ← (c .before .before .wait-at .ensures)) (c .acknowledged2 .ensures)
 
 pub granted-spec : {M : Type 1} → statement M
 granted-spec =
@@ -58,6 +58,6 @@ granted-spec =
     acknowledged-requires
     returns-3
     wait-at-requires
-    next-wait-requires
+    next-position-requires
     acknowledged-requires-2
     returns-4)

@@ -1,5 +1,6 @@
+use mathlib.Core.Path.{refl}
+use native.Mathlib.Omega.{arith}
 use borrow.Author.Needs.{needs}
-use Rattle.gate_machine.proofs.Laws.{less-one, less-none}
 use Rattle.gate_machine.proofs.access.one_less.Statement.{statement}
 use Rattle.gate_machine.proofs.access.one_less.Tie as tie
 
@@ -7,10 +8,10 @@ sub-result : tie.Need-sub-result
 sub-result c = search needs
 
 returns : tie.Need-returns
-returns c = less-one (c .before .args .left) (c .if1 .taken)
+returns c = refl
 
 returns-2 : tie.Need-returns-2
-returns-2 c = less-none (c .before .args .left) (c .if1 .left)
+returns-2 c = omega (arith, c .if1 .left)
 
 pub one-less-spec : {M : Type 1} → statement M
 one-less-spec = tie.close (tie.spec sub-result returns returns-2)

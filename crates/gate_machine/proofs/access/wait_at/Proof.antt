@@ -1,6 +1,7 @@
+use mathlib.Core.Path.{sym}
 use borrow.Author.Needs.{needs}
 use Rattle.model.specs.Waits.{waitAt}
-use Rattle.operands.proofs.Operands.{absent}
+use Rattle.model.proofs.Waits.{no-wait}
 use Rattle.gate_machine.proofs.access.wait_at.Statement.{statement}
 use Rattle.gate_machine.proofs.access.wait_at.Tie as tie
 
@@ -18,8 +19,7 @@ unfolding waitAt
 returns c = rw (c .before .before .wide .ensures)
 
 returns-2 : tie.Need-returns-2
-unfolding waitAt
-returns-2 c = absent (c .before .before .before .args .waits .now) (c .before .before .before .args .position) (rw (c .before .wide .ensures) at (c .if1 .left))
+returns-2 c = sym (no-wait (c .before .before .before .args .waits .now) (c .before .before .before .args .position) (rw (c .before .wide .ensures) at (c .if1 .left)))
 
 pub wait-at-spec : {M : Type 1} → statement M
 wait-at-spec =

@@ -1,17 +1,18 @@
-use Prim.Native.Nat.{ℕ, _≤_, _-_}
+use Prim.Native.Nat.{ℕ, _≤_, _+_, _-_}
 use mathlib.Core.Path.{_≡_, refl, ap, _∙_}
 use native.Mathlib.Omega.{arith}
 use lib.ListN.{length}
 use borrow.Author.Needs.{needs}
-use Rattle.arithmetic.proofs.Sums.{bit-le}
+use Rattle.arithmetic.proofs.Bits.{bit-le}
 use Rattle.model.specs.declared.GateState.{GateState}
 use Rattle.model.specs.Agreement.{gateFrom}
-use Rattle.model.specs.Gates.{Gate, gate, gateRun}
+use Rattle.model.specs.GateMachine.{Gate, gate, gateRun}
 use Rattle.model.proofs.Valid.{short, row-there}
 use Rattle.model.proofs.Progress.{finished-slow}
-use Rattle.step_table.proofs.TableLaws.{step-there}
+use Rattle.model.proofs.Blocked.{stands-on}
+use Rattle.step_table.proofs.Table.{step-there}
 use Rattle.gate_rows.specs.Work.{stateOf}
-use Rattle.gate_machine.proofs.Laws.{turn}
+use Rattle.gate_machine.proofs.Turns.{turn}
 use Rattle.gate_machine.proofs.machine.run_clocks.Statement.{statement}
 use Rattle.gate_machine.proofs.machine.run_clocks.Tie as tie
 
@@ -52,20 +53,29 @@ add-finished c = omega (arith, ap (λ (x : Gate). x .finished) (c .before .befor
 add-i : tie.Need-add-i Inv-loop μ-loop
 add-i c = omega (arith, c .before .before .before .before .before .before .before .before .before .loop-test .taken, c .before .before .before .before .before .before .before .before .before .before .before .before .before .before .before .before .fits .clocks)
 
-loop-less : tie.Need-loop-less Inv-loop μ-loop
-loop-less c = omega arith
-
-loop-again : tie.Need-loop-again Inv-loop μ-loop
-loop-again c = (omega arith, c .before .before .before .before .tick .kept .1 .1 .1 .0 ∙ c .before .before .before .before .before .before .before .before .before .before .loop .inv .1, turn (c .before .before .before .before .before .before .before .before .before .before .before .before .before .before .before .before .args .waits .now) (c .before .before .before .before .before .before .before .before .before .before .loop .i) (gateFrom (stateOf (c .before .before .before .before .before .before .before .before .before .before .before .before .before .before .before .before .args .start .regs) (c .before .before .before .before .before .before .before .before .before .before .before .latches-of .result)) (c .before .before .before .before .before .before .before .before .before .before .before .before .before .before .before .before .args .memory .now)) (c .before .before .before .before .before .before .before .before .before .before .loop .inv .2) (c .before .before .before .before .tick .result .finished) (c .before .before .before .before .tick .ensures) refl)
-
 state-of-requires : tie.Need-state-of-requires Inv-loop μ-loop
 state-of-requires c κs = search needs
 
 same-length : tie.Need-same-length Inv-loop μ-loop
-same-length c = c .before .before .loop .inv .1
+same-length c = c .before .before .before .before .before .before .tick .kept .1 .1 .1 .0 ∙ c .before .before .before .before .before .before .before .before .before .before .before .before .loop .inv .1
 
 returns : tie.Need-returns Inv-loop μ-loop
-returns c = ap (λ (s : GateState). gate s (c .before .before .loop .memory) (c .before .before .loop .finished)) (c .state-of .ensures) ∙ c .before .before .loop .inv .2 ∙ ap (λ (x : ℕ). gateRun (c .before .before .before .before .before .before .before .before .args .waits .now) x (gateFrom (stateOf (c .before .before .before .before .before .before .before .before .args .start .regs) (c .before .before .before .latches-of .result)) (c .before .before .before .before .before .before .before .before .args .memory .now))) (omega arith) ∙ ap (λ (s : GateState). gateRun (c .before .before .before .before .before .before .before .before .args .waits .now) (c .before .before .before .before .before .before .before .before .args .clocks) (gateFrom s (c .before .before .before .before .before .before .before .before .args .memory .now))) (c .before .before .before .latches-of .ensures)
+returns c = rw (c .state-of .ensures) (stands-on (c .before .before .before .before .before .before .before .before .before .before .before .before .before .before .before .before .before .before .args .waits .now) (c .before .before .before .before .before .before .before .before .before .before .before .before .loop .i + 1) (c .before .before .before .before .before .before .before .before .before .before .before .before .before .before .before .before .before .before .args .clocks) (gateFrom (stateOf (c .before .before .before .before .before .before .before .before .before .before .before .before .before .before .before .before .before .before .args .start .regs) (c .before .before .before .before .before .before .before .before .before .before .before .before .before .latches-of .result)) (c .before .before .before .before .before .before .before .before .before .before .before .before .before .before .before .before .before .before .args .memory .now)) (turn (c .before .before .before .before .before .before .before .before .before .before .before .before .before .before .before .before .before .before .args .waits .now) (c .before .before .before .before .before .before .before .before .before .before .before .before .loop .i) (gateFrom (stateOf (c .before .before .before .before .before .before .before .before .before .before .before .before .before .before .before .before .before .before .args .start .regs) (c .before .before .before .before .before .before .before .before .before .before .before .before .before .latches-of .result)) (c .before .before .before .before .before .before .before .before .before .before .before .before .before .before .before .before .before .before .args .memory .now)) (c .before .before .before .before .before .before .before .before .before .before .before .before .loop .inv .2) (c .before .before .before .before .before .before .tick .result .finished) (c .before .before .before .before .before .before .tick .ensures .0) refl) (c .before .before .before .before .before .before .tick .ensures .1 (c .before .if1 .taken) _) (omega (arith, c .before .before .before .before .before .before .before .before .before .before .before .loop-test .taken)) ∙ ap (λ (s : GateState). gateRun (c .before .before .before .before .before .before .before .before .before .before .before .before .before .before .before .before .before .before .args .waits .now) (c .before .before .before .before .before .before .before .before .before .before .before .before .before .before .before .before .before .before .args .clocks) (gateFrom s (c .before .before .before .before .before .before .before .before .before .before .before .before .before .before .before .before .before .before .args .memory .now))) (c .before .before .before .before .before .before .before .before .before .before .before .before .before .latches-of .ensures))
+
+loop-less : tie.Need-loop-less Inv-loop μ-loop
+loop-less c = omega arith
+
+loop-again : tie.Need-loop-again Inv-loop μ-loop
+loop-again c = (omega arith, c .before .before .before .before .before .tick .kept .1 .1 .1 .0 ∙ c .before .before .before .before .before .before .before .before .before .before .before .loop .inv .1, turn (c .before .before .before .before .before .before .before .before .before .before .before .before .before .before .before .before .before .args .waits .now) (c .before .before .before .before .before .before .before .before .before .before .before .loop .i) (gateFrom (stateOf (c .before .before .before .before .before .before .before .before .before .before .before .before .before .before .before .before .before .args .start .regs) (c .before .before .before .before .before .before .before .before .before .before .before .before .latches-of .result)) (c .before .before .before .before .before .before .before .before .before .before .before .before .before .before .before .before .before .args .memory .now)) (c .before .before .before .before .before .before .before .before .before .before .before .loop .inv .2) (c .before .before .before .before .before .tick .result .finished) (c .before .before .before .before .before .tick .ensures .0) refl)
+
+state-of-requires-2 : tie.Need-state-of-requires-2 Inv-loop μ-loop
+state-of-requires-2 c κs = search needs
+
+same-length-2 : tie.Need-same-length-2 Inv-loop μ-loop
+same-length-2 c = c .before .before .loop .inv .1
+
+returns-2 : tie.Need-returns-2 Inv-loop μ-loop
+returns-2 c = ap (λ (s : GateState). gate s (c .before .before .loop .memory) (c .before .before .loop .finished)) (c .state-of2 .ensures) ∙ c .before .before .loop .inv .2 ∙ ap (λ (x : ℕ). gateRun (c .before .before .before .before .before .before .before .before .args .waits .now) x (gateFrom (stateOf (c .before .before .before .before .before .before .before .before .args .start .regs) (c .before .before .before .latches-of .result)) (c .before .before .before .before .before .before .before .before .args .memory .now))) (omega arith) ∙ ap (λ (s : GateState). gateRun (c .before .before .before .before .before .before .before .before .args .waits .now) (c .before .before .before .before .before .before .before .before .args .clocks) (gateFrom s (c .before .before .before .before .before .before .before .before .args .memory .now))) (c .before .before .before .latches-of .ensures)
 
 pub run-clocks-spec : {M : Type 1} → statement M
 run-clocks-spec =
@@ -83,8 +93,11 @@ run-clocks-spec =
     cast-finished
     add-finished
     add-i
-    loop-less
-    loop-again
     state-of-requires
     same-length
-    returns)
+    returns
+    loop-less
+    loop-again
+    state-of-requires-2
+    same-length-2
+    returns-2)

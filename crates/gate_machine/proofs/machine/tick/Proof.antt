@@ -1,6 +1,6 @@
 use borrow.Author.Tests.{not-true, not-false}
 use borrow.Author.Needs.{needs}
-use Rattle.gate_machine.proofs.Laws.{waits-on, works-on}
+use Rattle.gate_machine.proofs.Turns.{waits-on, works-on}
 use Rattle.gate_machine.proofs.machine.tick.Statement.{statement}
 use Rattle.gate_machine.proofs.machine.tick.Tie as tie
 

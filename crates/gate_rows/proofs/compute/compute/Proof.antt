@@ -5,11 +5,11 @@ use Rattle.gate_rows.proofs.compute.compute.Tie as tie
 unit-of-requires : tie.Need-unit-of-requires
 unit-of-requires c κs = search needs
 
-flags-after-requires : tie.Need-flags-after-requires
-flags-after-requires c κs = search needs
+flags-after-apart-requires : tie.Need-flags-after-apart-requires
+flags-after-apart-requires c κs = search needs
 
-is-stored-requires : tie.Need-is-stored-requires
-is-stored-requires c κs = search needs
+stores-apart-requires : tie.Need-stores-apart-requires
+stores-apart-requires c κs = search needs
 
 operand-b-requires : tie.Need-operand-b-requires
 operand-b-requires c κs = search needs
@@ -21,15 +21,15 @@ chosen-requires : tie.Need-chosen-requires
 chosen-requires c κs = search needs
 
 returns : tie.Need-returns
-returns c = λ regs. rw (c .chosen .ensures, c .before .in-memory .ensures, c .before .before .operand-b .ensures, c .before .before .before .is-stored .ensures, c .before .before .before .before .flags-after .ensures, c .before .before .before .before .before .unit-of .ensures)
+returns c = λ regs. rw (c .chosen .ensures, c .before .in-memory .ensures, c .before .before .operand-b .ensures, c .before .before .before .stores-apart .ensures, c .before .before .before .before .flags-after-apart .ensures, c .before .before .before .before .before .unit-of .ensures)
 
 pub compute-spec : {M : Type 1} → statement M
 compute-spec =
     tie.close
     (tie.spec
     unit-of-requires
-    flags-after-requires
-    is-stored-requires
+    flags-after-apart-requires
+    stores-apart-requires
     operand-b-requires
     in-memory-requires
     chosen-requires

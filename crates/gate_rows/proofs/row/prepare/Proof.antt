@@ -1,9 +1,9 @@
 use mathlib.Core.Path.{sym, _∙_}
 use mathlib.Core.Bool.{true, false, cond}
 use borrow.Author.Needs.{needs}
-use Rattle.model.specs.Gates.{withA, withB}
+use Rattle.model.specs.GateMachine.{withA, withB}
 use Rattle.gate_rows.specs.Work.{stateOf}
-use Rattle.gate_rows.proofs.Laws.{prepared, prepared-direct}
+use Rattle.gate_rows.proofs.Rows.{prepared, prepared-direct}
 use Rattle.gate_rows.proofs.row.prepare.Statement.{statement}
 use Rattle.gate_rows.proofs.row.prepare.Tie as tie
 

@@ -1,5 +1,5 @@
 use Prim.Native.Nat.{_≤_, _<_, _-_, _+_}
-use mathlib.Core.Bool.{Bool}
+use mathlib.Core.Bool.{Bool, xor}
 use mathlib.Core.Path.{_≡_, refl, sym, _∙_}
 use mathlib.Core.List.{List, _++_}
 use native.Mathlib.Omega.{arith}
@@ -36,6 +36,7 @@ loop-less : tie.Need-loop-less Inv-loop μ-loop
 loop-less c = omega arith
 
 loop-again : tie.Need-loop-again Inv-loop μ-loop
+unfolding xor
 loop-again c =
     let a : List Bool = c .before .before .before .before .args .a .now in
     let b : List Bool = c .before .before .before .before .args .b .now in

@@ -1,3 +1,4 @@
+use mathlib.Core.Bool.{xor}
 use borrow.Author.Needs.{needs}
 use Rattle.gates.proofs.control.control.Statement.{statement}
 use Rattle.gates.proofs.control.control.Tie as tie
@@ -15,6 +16,7 @@ selector-requires-4 : tie.Need-selector-requires-4
 selector-requires-4 c κs = search needs
 
 returns : tie.Need-returns
+unfolding xor
 returns c = simp (c .selector4 .ensures, c .before .selector3 .ensures, c .before .before .selector2 .ensures, c .before .before .before .selector .ensures)
 
 pub control-spec : {M : Type 1} → statement M

@@ -1,6 +1,6 @@
 use borrow.Author.Needs.{needs}
-use Rattle.host_words.proofs.LaidLaws.{laid-over, laid-nowhere}
-use Rattle.host_ends.proofs.PlaceLaws.{one-stored}
+use Rattle.host_words.proofs.Laid.{laid-over, laid-nowhere}
+use Rattle.host_ends.proofs.Numbers.{one-stored}
 use Rattle.host_ends.proofs.places.put_one.Statement.{statement}
 use Rattle.host_ends.proofs.places.put_one.Tie as tie
 

@@ -1,6 +1,6 @@
 use borrow.Author.Needs.{needs}
-use Rattle.host_words.proofs.LaidLaws.{laid-over, laid-nowhere}
-use Rattle.host_ends.proofs.PlaceLaws.{two-stored}
+use Rattle.host_words.proofs.Laid.{laid-over, laid-nowhere}
+use Rattle.host_ends.proofs.Numbers.{two-stored}
 use Rattle.host_ends.proofs.places.put_two.Statement.{statement}
 use Rattle.host_ends.proofs.places.put_two.Tie as tie
 

@@ -1,5 +1,5 @@
 use borrow.Author.Needs.{needs}
-use Rattle.host_reading.proofs.ReadingLaws.{state-from}
+use Rattle.host_reading.proofs.Starts.{state-from}
 use Rattle.host_reading.proofs.reading.state_in.Statement.{statement}
 use Rattle.host_reading.proofs.reading.state_in.Tie as tie
 

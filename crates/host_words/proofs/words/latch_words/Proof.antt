@@ -1,6 +1,6 @@
 use mathlib.Core.Path.{refl}
 use borrow.Author.Needs.{needs}
-use Rattle.host_words.specs.Words.{latchWords}
+use Rattle.model.specs.Packed.{latchWords}
 use Rattle.host_words.proofs.words.latch_words.Statement.{statement}
 use Rattle.host_words.proofs.words.latch_words.Tie as tie
 

@@ -7,7 +7,7 @@ use lib.ListN.{length, take, drop, length-set}
 use lib.Seq.{sets}
 use Rattle.model.proofs.Stores.{store-step, store-end}
 use Rattle.image.specs.Bytes.{number, wordsIn}
-use Rattle.image_reader.proofs.Places.{next-word}
+use Rattle.image.proofs.Places.{word-after}
 use Rattle.image_reader.proofs.bytes.get_words.Statement.{statement}
 use Rattle.image_reader.proofs.bytes.get_words.Tie as tie
 
@@ -60,7 +60,7 @@ loop-again c =
       omega arith,
       length-set (l .out) (a .from + i) (c .word-in .result) ∙ l .inv .1,
       store-step (l .out) _ (a .from + i) (a .from + (i + 1)) (c .word-in .result ∷ []) rest _ refl (omega arith)
-          (ap (sets (l .out) (a .from + i)) (ap (λ (x : ℕ). x ∷ rest) w ∙ sym (next-word (a .bytes .now) (a .at + 4 * i) (a .at + 4 * (i + 1)) (a .count - i) (a .count - (i + 1)) e₀ e₁)) ∙ l .inv .2),
+          (ap (sets (l .out) (a .from + i)) (ap (λ (x : ℕ). x ∷ rest) w ∙ sym (word-after (a .bytes .now) (a .at + 4 * i) (a .at + 4 * (i + 1)) (a .count - i) (a .count - (i + 1)) e₀ e₁)) ∙ l .inv .2),
     )
 
 same-length : tie.Need-same-length Inv-loop μ-loop

@@ -1,6 +1,6 @@
 use native.Mathlib.Omega.{arith}
 use borrow.Author.Needs.{needs}
-use Rattle.image_reader.proofs.Places.{two-bytes}
+use Rattle.image.proofs.Places.{two-bytes}
 use Rattle.image_reader.proofs.bytes.pair_at.Statement.{statement}
 use Rattle.image_reader.proofs.bytes.pair_at.Tie as tie
 

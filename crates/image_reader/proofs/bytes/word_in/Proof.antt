@@ -1,6 +1,6 @@
 use native.Mathlib.Omega.{arith}
 use borrow.Author.Needs.{needs}
-use Rattle.image_reader.proofs.Places.{four-bytes}
+use Rattle.image.proofs.Places.{four-bytes}
 use Rattle.image_reader.proofs.bytes.word_in.Statement.{statement}
 use Rattle.image_reader.proofs.bytes.word_in.Tie as tie
 

@@ -4,7 +4,8 @@ use borrow.Author.Needs.{needs}
 use Rattle.model.specs.declared.Verdict.{Verdict}
 use Rattle.model.specs.Refusals.{_then_}
 use Rattle.image.specs.Format.{countField}
-use Rattle.image_reader.proofs.Headers.{with-rule, count-rule}
+use Rattle.image.proofs.Headers.{with-rule}
+use Rattle.image_reader.proofs.Head.{count-checked}
 use Rattle.image_reader.proofs.checks.count_verdict.Statement.{statement}
 use Rattle.image_reader.proofs.checks.count_verdict.Tie as tie
 
@@ -35,7 +36,7 @@ returns c =
     with-rule (countField (a .room)) (drop 46 (a .bytes .now)) (c .then2 .ensures) (c .before .before .before .before .before .header-verdict .ensures)
     (c .before .then .ensures
     ∙ ap₂ (λ (x y : Verdict). x then y) (c .before .before .before .demand .ensures) (c .before .before .demand2 .ensures)
-    ∙ count-rule (a .bytes .now) _ (a .room) (c .before .before .before .before .word-count .ensures))
+    ∙ count-checked (a .bytes .now) _ (a .room) (c .before .before .before .before .word-count .ensures))
 
 pub count-verdict-spec : {M : Type 1} → statement M
 count-verdict-spec =

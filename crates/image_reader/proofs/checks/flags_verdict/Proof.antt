@@ -7,7 +7,8 @@ use lib.ListN.{drop}
 use lib.Seq.{getD-drop}
 use borrow.Author.Needs.{needs}
 use Rattle.image.specs.Format.{flagsField}
-use Rattle.image_reader.proofs.Headers.{with-rule, flags-rule}
+use Rattle.image.proofs.Headers.{with-rule}
+use Rattle.image_reader.proofs.Head.{flags-checked}
 use Rattle.image_reader.proofs.checks.flags_verdict.Statement.{statement}
 use Rattle.image_reader.proofs.checks.flags_verdict.Tie as tie
 
@@ -40,7 +41,7 @@ returns c =
     let e₂ = c .before .before .before .byte-at3 .ensures .is ∙ sym (getD-drop 42 bytes 2 0) in
     let e₃ = c .before .before .byte-at4 .ensures .is ∙ sym (getD-drop 42 bytes 3 0) in
     with-rule flagsField (drop 39 bytes) (c .then .ensures) (c .before .before .before .before .before .before .header-verdict .ensures)
-    (c .before .demand .ensures ∙ flags-rule bytes _ (λ i. leb (e₀ i) 1 && leb (e₁ i) 1 && leb (e₂ i) 1 && leb (e₃ i) 1))
+    (c .before .demand .ensures ∙ flags-checked bytes _ (λ i. leb (e₀ i) 1 && leb (e₁ i) 1 && leb (e₂ i) 1 && leb (e₃ i) 1))
 
 pub flags-verdict-spec : {M : Type 1} → statement M
 flags-verdict-spec =

@@ -1,5 +1,5 @@
 use borrow.Author.Needs.{needs}
-use Rattle.image_reader.proofs.Headers.{head-of}
+use Rattle.image_reader.proofs.Head.{head-of}
 use Rattle.image_reader.proofs.checks.head_verdict.Statement.{statement}
 use Rattle.image_reader.proofs.checks.head_verdict.Tie as tie
 

@@ -1,7 +1,7 @@
 use mathlib.Core.Path.{sym, _∙_}
 use native.Mathlib.Omega.{arith}
 use borrow.Author.Needs.{needs}
-use Rattle.image_reader.proofs.Headers.{cut-header, wrong-tag, wrong-length, cut-value, whole-field}
+use Rattle.image.proofs.Headers.{cut-header, wrong-tag, wrong-length, cut-value, whole-field}
 use Rattle.image_reader.proofs.checks.header_verdict.Statement.{statement}
 use Rattle.image_reader.proofs.checks.header_verdict.Tie as tie
 

@@ -1,10 +1,10 @@
-use Prim.Native.Nat.{_+_, _-_, _≤_, _<_}
+use Prim.Native.Nat.{_+_, _≤_, _<_}
 use mathlib.Core.Path.{_≡_, refl, sym, _∙_}
 use native.Mathlib.Omega.{arith}
 use borrow.Author.Needs.{needs}
 use Rattle.image.specs.Format.{fieldsFor, spanOf}
-use Rattle.image.proofs.MemoryLaws.{span-step}
-use Rattle.image_reader.specs.Layout.{tailVerdict}
+use Rattle.image.proofs.Memories.{span-step}
+use Rattle.image_reader.specs.Passes.{tailVerdict}
 use Rattle.image_reader.proofs.Turns.{tail-refused, tail-goes, tail-end}
 use Rattle.image_reader.proofs.checks.tail_verdict.Statement.{statement}
 use Rattle.image_reader.proofs.checks.tail_verdict.Tie as tie

@@ -1,7 +1,8 @@
 use mathlib.Core.Path.{_∙_}
 use borrow.Author.Needs.{needs}
 use Rattle.image.specs.Format.{versionField}
-use Rattle.image_reader.proofs.Headers.{with-rule, version-rule}
+use Rattle.image.proofs.Headers.{with-rule}
+use Rattle.image_reader.proofs.Head.{version-checked}
 use Rattle.image_reader.proofs.checks.version_verdict.Statement.{statement}
 use Rattle.image_reader.proofs.checks.version_verdict.Tie as tie
 
@@ -21,7 +22,7 @@ returns : tie.Need-returns
 returns c =
     let bytes = c .before .before .before .before .before .args .bytes .now in
     with-rule versionField bytes (c .then .ensures) (c .before .before .before .header-verdict .ensures)
-    (c .before .demand .ensures ∙ version-rule bytes _ (c .before .before .byte-at .ensures .is))
+    (c .before .demand .ensures ∙ version-checked bytes _ (c .before .before .byte-at .ensures .is))
 
 pub version-verdict-spec : {M : Type 1} → statement M
 version-verdict-spec =

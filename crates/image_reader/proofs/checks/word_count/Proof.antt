@@ -1,6 +1,6 @@
 use native.Mathlib.Omega.{arith}
 use borrow.Author.Needs.{needs}
-use Rattle.image_reader.proofs.Places.{two-pairs}
+use Rattle.image.proofs.Places.{two-pairs}
 use Rattle.image_reader.proofs.checks.word_count.Statement.{statement}
 use Rattle.image_reader.proofs.checks.word_count.Tie as tie
 

@@ -8,9 +8,9 @@ use lib.Seq.{sets}
 use Rattle.model.proofs.Stores.{store-step, store-end}
 use Rattle.image.specs.Bytes.{wordsIn}
 use Rattle.image.specs.Format.{wordsPerField, fieldsFor, spanOf}
-use Rattle.image.proofs.BytesLaws.{length-words}
-use Rattle.image.proofs.MemoryLaws.{span-turn}
-use Rattle.image_reader.specs.Layout.{memoryIn}
+use Rattle.image.proofs.Bytes.{length-words}
+use Rattle.image.proofs.Memories.{span-turn}
+use Rattle.image_reader.specs.Passes.{imageMemory}
 use Rattle.image_reader.proofs.Turns.{memory-step}
 use Rattle.image_reader.proofs.loads.load_memory.Statement.{statement}
 use Rattle.image_reader.proofs.loads.load_memory.Tie as tie
@@ -19,7 +19,7 @@ abbrev Inv-loop : tie.InvT-loop
 Inv-loop bytes memory₀ words at₀ from₀ memory at from =
     (from ≤ words) × (length memory ≡ length memory₀)
     × (at + spanOf (words - from) ≡ 53 + spanOf words)
-    × (sets memory from (memoryIn (fieldsFor (words - from)) (words - from) (drop at bytes)) ≡ sets memory₀ 0 (memoryIn (fieldsFor words) words (drop 53 bytes)))
+    × (sets memory from (imageMemory (fieldsFor (words - from)) (words - from) (drop at bytes)) ≡ sets memory₀ 0 (imageMemory (fieldsFor words) words (drop 53 bytes)))
 
 abbrev μ-loop : tie.MeasureT-loop
 μ-loop bytes memory₀ words at₀ from₀ memory at from = words - from
@@ -70,7 +70,7 @@ loop-again c =
     let count : ℕ = c .before .before .before .before .words-in-field .result in
     let e : count ≡ min wordsPerField left = c .before .before .before .before .words-in-field .ensures in
     let q : left - count ≡ a .words - (l .from + count) = omega arith in
-    let p = memory-step left (l .at) count bytes (omega arith) e ∙ ap (λ (n : ℕ). wordsIn count (drop (l .at + 3) bytes) ++ memoryIn (fieldsFor n) n (drop (l .at + 3 + 4 * count) bytes)) q in
+    let p = memory-step left (l .at) count bytes (omega arith) e ∙ ap (λ (n : ℕ). wordsIn count (drop (l .at + 3) bytes) ++ imageMemory (fieldsFor n) n (drop (l .at + 3 + 4 * count) bytes)) q in
     let lw : length (wordsIn count (drop (l .at + 3) bytes)) ≡ count = length-words count (drop (l .at + 3) bytes) in (
       omega arith,
       w .kept .1 .1 .0 ∙ l .inv .1,
@@ -83,12 +83,12 @@ same-length : tie.Need-same-length Inv-loop μ-loop
 same-length c = omega arith
 
 returns : tie.Need-returns Inv-loop μ-loop
-unfolding fieldsFor memoryIn
+unfolding fieldsFor imageMemory
 returns c =
     let a = c .before .before .before .before .args in
     let l = c .before .loop in
     let e : a .words - l .from ≡ 0 = omega arith in
-    store-end (l .memory) _ _ _ (ap (λ (n : ℕ). memoryIn (fieldsFor n) n (drop (l .at) (a .bytes .now))) e) (l .inv .3)
+    store-end (l .memory) _ _ _ (ap (λ (n : ℕ). imageMemory (fieldsFor n) n (drop (l .at) (a .bytes .now))) e) (l .inv .3)
 
 pub load-memory-spec : {M : Type 1} → statement M
 load-memory-spec =

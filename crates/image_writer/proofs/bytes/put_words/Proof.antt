@@ -6,19 +6,18 @@ use lib.ListN.{length, take, drop, getD}
 use lib.Seq.{sets}
 use Rattle.model.proofs.Stores.{store-step, store-end}
 use Rattle.image.specs.Bytes.{bytesOf, wordBytes}
-use Rattle.image.proofs.BytesLaws.{length-bytes}
-use Rattle.image_writer.proofs.Puts.{next-word}
+use Rattle.image.proofs.Bytes.{length-bytes, next-word}
 use Rattle.image_writer.proofs.bytes.put_words.Statement.{statement}
 use Rattle.image_writer.proofs.bytes.put_words.Tie as tie
 
 -- what is still to be stored
 abbrev Inv-loop : tie.InvT-loop
-Inv-loop words from count out₀ at i₀ out i =
+Inv-loop out₀ at words from count i₀ out i =
     (i ≤ count) × (length out ≡ length out₀)
     × (sets out (at + 4 * i) (wordBytes (take (count - i) (drop (from + i) words))) ≡ sets out₀ at (wordBytes (take count (drop from words))))
 
 abbrev μ-loop : tie.MeasureT-loop
-μ-loop words from count out₀ at i₀ out i = count - i
+μ-loop out₀ at words from count i₀ out i = count - i
 
 loop-holds : tie.Need-loop-holds Inv-loop μ-loop
 loop-holds c = (omega arith, refl, simp (add-zero, sub-zero))

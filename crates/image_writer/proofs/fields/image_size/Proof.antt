@@ -10,6 +10,9 @@ mul-result c = search needs
 add-result : tie.Need-add-result
 add-result c = search needs
 
+sub-result : tie.Need-sub-result
+sub-result c = search needs
+
 add-result-2 : tie.Need-add-result-2
 add-result-2 c = search needs
 
@@ -25,4 +28,4 @@ returns c = omega arith
 
 pub image-size-spec : {M : Type 1} → statement M
 image-size-spec =
-    tie.close (tie.spec mul-result add-result add-result-2 mul-result-2 add-result-3 returns)
+    tie.close (tie.spec mul-result add-result sub-result add-result-2 mul-result-2 add-result-3 returns)

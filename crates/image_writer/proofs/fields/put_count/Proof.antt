@@ -2,7 +2,7 @@ use mathlib.Core.Path.{sym}
 use borrow.Author.Needs.{needs}
 use Rattle.image.specs.Bytes.{bytesOf}
 use Rattle.image.specs.Format.{countField}
-use Rattle.image.proofs.BytesLaws.{length-bytes}
+use Rattle.image.proofs.Bytes.{length-bytes}
 use Rattle.image_writer.proofs.Puts.{field-put}
 use Rattle.image_writer.proofs.fields.put_count.Statement.{statement}
 use Rattle.image_writer.proofs.fields.put_count.Tie as tie

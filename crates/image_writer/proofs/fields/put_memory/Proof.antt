@@ -8,20 +8,19 @@ use lib.Seq.{sets}
 use Rattle.model.proofs.Stores.{store-step, store-end}
 use Rattle.image.specs.Bytes.{wordBytes}
 use Rattle.image.specs.Format.{fieldBytes, wordsField, wordsPerField, fieldsFor, spanOf, memoryFields}
-use Rattle.image.proofs.MemoryLaws.{span-turn}
-use Rattle.image_writer.proofs.Puts.{next-field, length-word-field}
+use Rattle.image.proofs.Memories.{span-turn, next-field, length-word-field}
 use Rattle.image_writer.proofs.fields.put_memory.Statement.{statement}
 use Rattle.image_writer.proofs.fields.put_memory.Tie as tie
 
 -- what is still to be stored, and that it fits
 abbrev Inv-loop : tie.InvT-loop
-Inv-loop memory out₀ start at₀ from₀ out at from =
+Inv-loop out₀ start memory at₀ from₀ out at from =
     (from ≤ length memory) × (length out ≡ length out₀)
     × (at + spanOf (length memory - from) ≤ length out₀)
     × (sets out at (memoryFields (fieldsFor (length memory - from)) (drop from memory)) ≡ sets out₀ start (memoryFields (fieldsFor (length memory)) memory))
 
 abbrev μ-loop : tie.MeasureT-loop
-μ-loop memory out₀ start at₀ from₀ out at from = length memory - from
+μ-loop out₀ start memory at₀ from₀ out at from = length memory - from
 
 loop-holds : tie.Need-loop-holds Inv-loop μ-loop
 loop-holds c = (omega arith, refl, simp sub-zero (omega arith), simp sub-zero)
@@ -65,7 +64,7 @@ loop-again c =
     let e : count ≡ min wordsPerField (length memory - l .from) = c .before .before .before .before .words-in-field .ensures in
     let lf = length-word-field memory (l .from) count (omega arith) in (
       omega arith,
-      w .kept .1 .1 .1 .0 ∙ l .inv .1,
+      w .kept .0 ∙ l .inv .1,
       omega (arith, span-turn (l .at) (length memory) (l .from) count test e, l .inv .2),
       store-step (l .out) _ (l .at) _ (fieldBytes (wordsField count) (wordBytes (take count (drop (l .from) memory)))) _ _ (w .ensures) (omega arith)
           (ap (sets (l .out) (l .at)) (sym (next-field memory (l .from) count test e)) ∙ l .inv .3),

@@ -6,11 +6,11 @@ use Rattle.image_writer.proofs.fields.put_registers.Tie as tie
 put-header-requires : tie.Need-put-header-requires
 put-header-requires c κs = search needs
 
-slice-aggregate-put-words : tie.Need-slice-aggregate-put-words
-slice-aggregate-put-words c = search needs
-
 add-put-words : tie.Need-add-put-words
 add-put-words c = search needs
+
+slice-aggregate-put-words : tie.Need-slice-aggregate-put-words
+slice-aggregate-put-words c = search needs
 
 put-words-requires : tie.Need-put-words-requires
 put-words-requires c κs = search needs
@@ -29,8 +29,8 @@ put-registers-spec =
     tie.close
     (tie.spec
     put-header-requires
-    slice-aggregate-put-words
     add-put-words
+    slice-aggregate-put-words
     put-words-requires
     same-length
     returns)

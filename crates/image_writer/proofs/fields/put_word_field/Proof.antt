@@ -7,7 +7,7 @@ use lib.Seq.{length-take-le}
 use borrow.Author.Needs.{needs}
 use Rattle.image.specs.Bytes.{wordBytes}
 use Rattle.image.specs.Format.{wordsField}
-use Rattle.image.proofs.BytesLaws.{length-word-bytes}
+use Rattle.image.proofs.Bytes.{length-word-bytes}
 use Rattle.image_writer.proofs.Puts.{field-put}
 use Rattle.image_writer.proofs.fields.put_word_field.Statement.{statement}
 use Rattle.image_writer.proofs.fields.put_word_field.Tie as tie

@@ -1,6 +1,6 @@
 use native.Mathlib.Omega.{arith}
 use borrow.Author.Needs.{needs}
-use Rattle.interpreter.proofs.ClockLaws.{clocked-walks, clocked-past}
+use Rattle.interpreter.proofs.Spending.{clocked-walks, clocked-past}
 use Rattle.interpreter.proofs.clocks.clocked.Statement.{statement}
 use Rattle.interpreter.proofs.clocks.clocked.Tie as tie
 

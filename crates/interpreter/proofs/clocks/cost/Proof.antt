@@ -1,7 +1,7 @@
 use mathlib.Core.Path.{refl}
 use native.Mathlib.Omega.{arith}
 use borrow.Author.Needs.{needs}
-use Rattle.arithmetic.proofs.Sums.{bit-le}
+use Rattle.arithmetic.proofs.Bits.{bit-le}
 use Rattle.interpreter.proofs.clocks.cost.Statement.{statement}
 use Rattle.interpreter.proofs.clocks.cost.Tie as tie
 

@@ -2,7 +2,7 @@ use mathlib.Core.Path.{refl}
 use native.Mathlib.Omega.{arith}
 use borrow.Author.Needs.{needs}
 use Rattle.model.specs.Waits.{waitAt}
-use Rattle.interpreter.proofs.ClockLaws.{waits-there, waits-past}
+use Rattle.interpreter.proofs.Spending.{waits-there, waits-past}
 use Rattle.interpreter.proofs.clocks.more.Statement.{statement}
 use Rattle.interpreter.proofs.clocks.more.Tie as tie
 

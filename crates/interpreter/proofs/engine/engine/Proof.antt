@@ -3,9 +3,9 @@ use native.Mathlib.Omega.{arith}
 use borrow.Author.Tests.{not-true, not-false}
 use borrow.Author.Needs.{needs}
 use Rattle.model.specs.Waits.{waitAt}
+use Rattle.model.specs.Interpreter.{machine}
 use Rattle.model.specs.Packed.{flagsOf}
-use Rattle.step.specs.Steps.{machine}
-use Rattle.interpreter.proofs.RunLaws.{At, begins, clocks-fit, turn, ends-outside, ends-finished, unpackedStart}
+use Rattle.interpreter.proofs.Turns.{At, begins, clocks-fit, turn, ends-outside, ends-finished, unpackedStart}
 use Rattle.interpreter.proofs.engine.engine.Statement.{statement}
 use Rattle.interpreter.proofs.engine.engine.Tie as tie
 

@@ -1,6 +1,6 @@
 use native.Mathlib.Omega.{arith}
 use borrow.Author.Needs.{needs}
-use Rattle.ledger_text.proofs.PartLaws.{put, short}
+use Rattle.ledger_text.proofs.Parts.{put, short}
 use Rattle.ledger_text.proofs.lines.put_ending_word.Statement.{statement}
 use Rattle.ledger_text.proofs.lines.put_ending_word.Tie as tie
 

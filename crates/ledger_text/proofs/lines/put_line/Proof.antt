@@ -1,24 +1,35 @@
--- Its parts follow each other.
 use borrow.Author.Needs.{needs}
 use Rattle.ledger_lines.specs.Lines.{line}
-use Rattle.ledger_text.proofs.PartLaws.{_▸_}
+use Rattle.ledger_text.proofs.Parts.{put, _▸_}
 use Rattle.ledger_text.proofs.lines.put_line.Statement.{statement}
 use Rattle.ledger_text.proofs.lines.put_line.Tie as tie
 
-put-number-requires : tie.Need-put-number-requires
-put-number-requires c κs = search needs
+put-decimal-figure-requires : tie.Need-put-decimal-figure-requires
+put-decimal-figure-requires c κs = search needs
 
-put-word-requires : tie.Need-put-word-requires
-put-word-requires c κs = search needs
+put-hexadecimal-figure-requires : tie.Need-put-hexadecimal-figure-requires
+put-hexadecimal-figure-requires c κs = search needs
 
-put-word-requires-2 : tie.Need-put-word-requires-2
-put-word-requires-2 c κs = search needs
+put-hexadecimal-figure-requires-2 : tie.Need-put-hexadecimal-figure-requires-2
+put-hexadecimal-figure-requires-2 c κs = search needs
 
-put-number-requires-2 : tie.Need-put-number-requires-2
-put-number-requires-2 c κs = search needs
+put-decimal-figure-requires-2 : tie.Need-put-decimal-figure-requires-2
+put-decimal-figure-requires-2 c κs = search needs
 
-put-flags-requires : tie.Need-put-flags-requires
-put-flags-requires c κs = search needs
+put-flag-digits-requires : tie.Need-put-flag-digits-requires
+put-flag-digits-requires c κs = search needs
+
+add-after-flags : tie.Need-add-after-flags
+add-after-flags c = search needs
+
+slice-aggregate-put-text : tie.Need-slice-aggregate-put-text
+slice-aggregate-put-text c = search needs
+
+put-text-requires : tie.Need-put-text-requires
+put-text-requires c κs = search needs
+
+add-result : tie.Need-add-result
+add-result c = search needs
 
 same-length : tie.Need-same-length
 same-length c = search needs
@@ -26,20 +37,24 @@ same-length c = search needs
 returns : tie.Need-returns
 unfolding line
 returns c =
-    c .before .before .before .before .before .before .before .before .before .before .before .before .before .before .before .before .before .before .put-number .ensures .whole
-    ▸ c .before .before .before .before .before .before .before .before .before .before .before .before .before .before .put-word .ensures .whole
-    ▸ c .before .before .before .before .before .before .before .before .before .before .put-word2 .ensures .whole
-    ▸ c .before .before .before .before .before .before .put-number2 .ensures .whole
-    ▸ c .before .before .put-flags .ensures .whole
+    c .before .before .before .before .before .before .before .before .before .before .before .before .before .before .before .before .before .before .before .before .before .before .before .put-decimal-figure .ensures .whole
+    ▸ c .before .before .before .before .before .before .before .before .before .before .before .before .before .before .before .before .before .before .before .put-hexadecimal-figure .ensures .whole
+    ▸ c .before .before .before .before .before .before .before .before .before .before .before .before .before .before .before .put-hexadecimal-figure2 .ensures .whole
+    ▸ c .before .before .before .before .before .before .before .before .before .before .before .put-decimal-figure2 .ensures .whole
+    ▸ (put (c .before .before .before .before .before .before .before .put-flag-digits .ensures) ▸ put (c .before .before .put-text .ensures))
 
 pub put-line-spec : {M : Type 1} → statement M
 put-line-spec =
     tie.close
     (tie.spec
-    put-number-requires
-    put-word-requires
-    put-word-requires-2
-    put-number-requires-2
-    put-flags-requires
+    put-decimal-figure-requires
+    put-hexadecimal-figure-requires
+    put-hexadecimal-figure-requires-2
+    put-decimal-figure-requires-2
+    put-flag-digits-requires
+    add-after-flags
+    slice-aggregate-put-text
+    put-text-requires
+    add-result
     same-length
     returns)

@@ -1,6 +1,6 @@
 use borrow.Author.Needs.{needs}
 use Rattle.ledger_lines.specs.Lines.{refusedText}
-use Rattle.ledger_text.proofs.PartLaws.{start, _▸_}
+use Rattle.ledger_text.proofs.Parts.{start, _▸_}
 use Rattle.ledger_text.proofs.lines.put_refused.Statement.{statement}
 use Rattle.ledger_text.proofs.lines.put_refused.Tie as tie
 
@@ -13,11 +13,11 @@ put-text-requires c κs = search needs
 refusal-number-requires : tie.Need-refusal-number-requires
 refusal-number-requires c κs = search needs
 
-cast-put-number : tie.Need-cast-put-number
-cast-put-number c = search needs
+cast-put-decimal-figure : tie.Need-cast-put-decimal-figure
+cast-put-decimal-figure c = search needs
 
-put-number-requires : tie.Need-put-number-requires
-put-number-requires c κs = search needs
+put-decimal-figure-requires : tie.Need-put-decimal-figure-requires
+put-decimal-figure-requires c κs = search needs
 
 same-length : tie.Need-same-length
 same-length c = search needs
@@ -25,7 +25,7 @@ same-length c = search needs
 returns : tie.Need-returns
 unfolding refusedText
 returns c =
-    rw (c .before .before .before .refusal-number .ensures) at (start (c .before .before .before .before .before .before .before .put-text .ensures) ▸ c .before .before .put-number .ensures .whole)
+    rw (c .before .before .before .refusal-number .ensures) at (start (c .before .before .before .before .before .before .before .put-text .ensures) ▸ c .before .before .put-decimal-figure .ensures .whole)
 
 pub put-refused-spec : {M : Type 1} → statement M
 put-refused-spec =
@@ -34,7 +34,7 @@ put-refused-spec =
     slice-aggregate-put-text
     put-text-requires
     refusal-number-requires
-    cast-put-number
-    put-number-requires
+    cast-put-decimal-figure
+    put-decimal-figure-requires
     same-length
     returns)

@@ -1,10 +1,10 @@
--- After so many turns the run so far and its lines.
 use Prim.Native.Nat.{_-_}
 use mathlib.Core.Path.{_∙_}
 use native.Mathlib.Omega.{arith}
 use borrow.Author.Needs.{needs}
 use denote.Ref.{now}
-use Rattle.ledger_text.proofs.TurnLaws.{At, begins, at-small, clocks-fit, turn, outside, finished}
+use Rattle.ledger_lines.specs.Lines.{mostLines}
+use Rattle.ledger_text.proofs.Turns.{At, begins, at-small, clocks-fit, turn, outside, finished}
 use Rattle.ledger_text.proofs.running.put_run.Statement.{statement}
 use Rattle.ledger_text.proofs.running.put_run.Tie as tie
 
@@ -13,13 +13,13 @@ Inv-loop memory₀ out₀ at₀ machine₀ ran₀ clocks₀ memory out at machin
     At machine₀ memory₀ out₀ at₀ memory out machine at ran clocks
 
 abbrev μ-loop : tie.MeasureT-loop
-μ-loop memory₀ out₀ at₀ machine₀ ran₀ clocks₀ memory out at machine ran clocks = 16 - ran
+μ-loop memory₀ out₀ at₀ machine₀ ran₀ clocks₀ memory out at machine ran clocks = mostLines - ran
 
-put-header-requires : tie.Need-put-header-requires Inv-loop μ-loop
-put-header-requires c κs = tt
+put-heading-requires : tie.Need-put-heading-requires Inv-loop μ-loop
+put-heading-requires c κs = tt
 
 loop-holds : tie.Need-loop-holds Inv-loop μ-loop
-loop-holds c = begins (c .before .before .before .before .before .before .args .start) (now (c .before .before .before .before .before .before .args .memory)) (c .before .before .put-header .last .0) (c .before .before .put-header .result)
+loop-holds c = begins (c .before .before .before .before .before .before .args .start) (now (c .before .before .before .before .before .before .args .memory)) (c .before .before .put-heading .last .0) (c .before .before .put-heading .result)
 
 element-copy-out-address : tie.Need-element-copy-out-address Inv-loop μ-loop
 element-copy-out-address c = search needs
@@ -34,18 +34,18 @@ run-one-requires : tie.Need-run-one-requires Inv-loop μ-loop
 run-one-requires c κs = tt
 
 put-ending-requires : tie.Need-put-ending-requires Inv-loop μ-loop
-put-ending-requires c κs = omega (arith, at-small _ _ _ _ (c .before .before .before .before .before .before .before .before .before .before .before .before .loop .inv), c .before .before .before .before .before .before .before .before .before .before .before .before .before .before .before .put-header .ensures .near)
+put-ending-requires c κs = omega (arith, at-small _ _ _ _ (c .before .before .before .before .before .before .before .before .before .before .before .before .loop .inv), c .before .before .before .before .before .before .before .before .before .before .before .before .before .before .before .put-heading .ensures .near)
 
 same-length : tie.Need-same-length Inv-loop μ-loop
 same-length c = c .before .before .before .before .before .before .before .before .run-one .kept .0 ∙ c .before .before .before .before .before .before .before .before .before .before .before .before .before .before .before .loop .inv .words
 
 same-length-2 : tie.Need-same-length-2 Inv-loop μ-loop
-same-length-2 c = c .before .before .put-ending .kept .0 ∙ c .before .before .before .before .before .before .before .before .before .before .before .before .before .before .before .loop .inv .room ∙ c .before .before .before .before .before .before .before .before .before .before .before .before .before .before .before .before .before .before .put-header .kept .0
+same-length-2 c = c .before .before .put-ending .kept .0 ∙ c .before .before .before .before .before .before .before .before .before .before .before .before .before .before .before .loop .inv .room ∙ c .before .before .before .before .before .before .before .before .before .before .before .before .before .before .before .before .before .before .put-heading .kept .0
 
 returns : tie.Need-returns Inv-loop μ-loop
 returns c =
     outside _ _ _ _ (c .before .before .before .before .before .before .before .before .before .before .before .before .before .before .before .loop .inv) (c .before .before .before .before .before .before .before .before .run-one .ensures) (omega (arith, c .before .before .before .before .before .before .before .before .before .before .before .before .before .before .before .loop .inv .words, c .before .before .before .before .before .before .before .before .before .before .before .before .before .before .before .before .before .before .before .before .before .before .pre)) (omega (arith, c .before .before .before .before .before .before .before .before .before .before .before .before .before .before .before .loop .inv .words, c .before .before .before .before .before .before .before .before .before .before .before .before .before .before .before .before .before .before .before .before .before .before .pre))
-    (c .before .before .before .before .if1 .taken) (c .before .before .before .before .before .before .before .before .before .before .before .before .before .before .loop-test .taken) (c .before .before .before .before .before .before .before .before .before .before .before .before .before .before .before .before .before .before .put-header .ensures .whole) (c .before .before .put-ending .ensures)
+    (c .before .before .before .before .if1 .taken) (c .before .before .before .before .before .before .before .before .before .before .before .before .before .before .loop-test .taken) (c .before .before .before .before .before .before .before .before .before .before .before .before .before .before .before .before .before .before .put-heading .ensures .whole) (c .before .before .put-ending .ensures)
 
 add-ran : tie.Need-add-ran Inv-loop μ-loop
 add-ran c = omega (arith, c .before .before .before .before .before .before .before .before .before .before .before .before .loop-test .taken)
@@ -54,7 +54,7 @@ add-clocks : tie.Need-add-clocks Inv-loop μ-loop
 add-clocks c = omega (arith, clocks-fit _ _ _ _ (c .before .before .before .before .before .before .before .before .before .before .before .before .before .before .loop .inv) (c .before .before .before .before .before .before .before .run-one .ensures) (omega (arith, c .before .before .before .before .before .before .before .before .before .before .before .before .before .before .loop .inv .words, c .before .before .before .before .before .before .before .before .before .before .before .before .before .before .before .before .before .before .before .before .before .pre)) (omega (arith, c .before .before .before .before .before .before .before .before .before .before .before .before .before .before .loop .inv .words, c .before .before .before .before .before .before .before .before .before .before .before .before .before .before .before .before .before .before .before .before .before .pre)))
 
 put-line-requires : tie.Need-put-line-requires Inv-loop μ-loop
-put-line-requires c κs = omega (arith, at-small _ _ _ _ (c .before .before .before .before .before .before .before .before .before .before .before .before .before .before .before .loop .inv), c .before .before .before .before .before .before .before .before .before .before .before .before .before .before .before .before .before .before .put-header .ensures .near)
+put-line-requires c κs = omega (arith, at-small _ _ _ _ (c .before .before .before .before .before .before .before .before .before .before .before .before .before .before .before .loop .inv), c .before .before .before .before .before .before .before .before .before .before .before .before .before .before .before .before .before .before .put-heading .ensures .near)
 
 loop-less : tie.Need-loop-less Inv-loop μ-loop
 loop-less c = omega (arith, c .before .before .before .before .before .before .before .before .before .before .before .before .before .before .before .before .before .loop-test .taken)
@@ -65,16 +65,16 @@ loop-again c =
     (c .before .before .before .before .before .before .before .if1 .left) (c .before .before .before .before .before .before .before .before .before .before .before .before .before .before .before .before .before .loop-test .taken) (c .before .before .before .before .before .before .before .before .before .before .before .run-one .kept .0) (c .before .before .put-line .kept .0) (rw (c .before .before .before .before .before .before .before .before .before .before .before .before .before .before .wide .ensures) at (c .before .before .before .before .before .before .before .before .before .before .before .before .before .load .ensures)) (c .before .before .put-line .ensures)
 
 put-ending-requires-2 : tie.Need-put-ending-requires-2 Inv-loop μ-loop
-put-ending-requires-2 c κs = omega (arith, at-small _ _ _ _ (c .before .before .loop .inv), c .before .before .before .before .before .put-header .ensures .near)
+put-ending-requires-2 c κs = omega (arith, at-small _ _ _ _ (c .before .before .loop .inv), c .before .before .before .before .before .put-heading .ensures .near)
 
 same-length-3 : tie.Need-same-length-3 Inv-loop μ-loop
 same-length-3 c = c .before .before .before .before .before .loop .inv .words
 
 same-length-4 : tie.Need-same-length-4 Inv-loop μ-loop
-same-length-4 c = c .before .before .put-ending2 .kept .0 ∙ c .before .before .before .before .before .loop .inv .room ∙ c .before .before .before .before .before .before .before .before .put-header .kept .0
+same-length-4 c = c .before .before .put-ending2 .kept .0 ∙ c .before .before .before .before .before .loop .inv .room ∙ c .before .before .before .before .before .before .before .before .put-heading .kept .0
 
 returns-2 : tie.Need-returns-2 Inv-loop μ-loop
-returns-2 c = finished _ _ _ _ (c .before .before .before .before .before .loop .inv) (c .before .before .before .before .loop-test .left) (c .before .before .before .before .before .before .before .before .put-header .ensures .whole) (c .before .before .put-ending2 .ensures)
+returns-2 c = finished _ _ _ _ (c .before .before .before .before .before .loop .inv) (c .before .before .before .before .loop-test .left) (c .before .before .before .before .before .before .before .before .put-heading .ensures .whole) (c .before .before .put-ending2 .ensures)
 
 pub put-run-spec : {M : Type 1} → statement M
 put-run-spec =
@@ -82,7 +82,7 @@ put-run-spec =
     (tie.spec
     Inv-loop
     μ-loop
-    put-header-requires
+    put-heading-requires
     loop-holds
     element-copy-out-address
     wide-requires

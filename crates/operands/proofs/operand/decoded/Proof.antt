@@ -1,5 +1,5 @@
 use native.Mathlib.Omega.{arith}
-use Rattle.operands.proofs.Operands.{after}
+use Rattle.model.proofs.Operands.{after}
 use Rattle.operands.proofs.operand.decoded.Statement.{statement}
 use Rattle.operands.proofs.operand.decoded.Tie as tie
 

@@ -2,14 +2,14 @@ use borrow.Author.Needs.{needs}
 use Rattle.step.proofs.finish.finish.Statement.{statement}
 use Rattle.step.proofs.finish.finish.Tie as tie
 
-stores-on-requires : tie.Need-stores-on-requires
-stores-on-requires c κs = search needs
+stores-packed-requires : tie.Need-stores-packed-requires
+stores-packed-requires c κs = search needs
 
-compute-requires : tie.Need-compute-requires
-compute-requires c κs = search needs
+unit-of-requires : tie.Need-unit-of-requires
+unit-of-requires c κs = search needs
 
-set-flags-requires : tie.Need-set-flags-requires
-set-flags-requires c κs = search needs
+flags-after-packed-requires : tie.Need-flags-after-packed-requires
+flags-after-packed-requires c κs = search needs
 
 put-requires : tie.Need-put-requires
 put-requires c κs = search needs
@@ -29,19 +29,19 @@ same-length-2 c = search needs
 returns : tie.Need-returns
 returns c =
     record {
-      result = rw (c .before .before .before .before .before .before .before .before .before .before .before .before .set-flags .ensures, c .before .before .before .before .before .before .before .before .before .before .before .before .before .compute .ensures, c .before .before .before .before .before .before .before .before .put .ensures .count, c .before .before .before .before .before .before .before .before .before .before .before .before .before .before .stores-on .ensures);
-      registers = rw (c .step-up2 .ensures, c .before .before .step-up .ensures, c .before .before .before .before .before .before .before .before .put .ensures .registers, c .before .before .before .before .before .before .before .before .before .before .before .before .before .before .stores-on .ensures, c .before .before .before .before .before .before .before .before .before .before .before .before .before .compute .ensures);
-      words = rw (c .before .before .before .before .before .before .before .before .put .ensures .words, c .before .before .before .before .before .before .before .before .before .before .before .before .before .before .stores-on .ensures, c .before .before .before .before .before .before .before .before .before .before .before .before .before .compute .ensures);
-      places = rw (c .before .before .before .before .before .before .before .before .put .ensures .places, c .before .before .before .before .before .before .before .before .before .before .before .before .before .before .stores-on .ensures);
+      result = rw (c .before .before .before .before .before .before .before .before .before .before .before .before .flags-after-packed .ensures, c .before .before .before .before .before .before .before .before .before .before .before .before .before .unit-of .ensures, c .before .before .before .before .before .before .before .before .put .ensures .count, c .before .before .before .before .before .before .before .before .before .before .before .before .before .before .stores-packed .ensures);
+      registers = rw (c .step-up2 .ensures, c .before .before .step-up .ensures, c .before .before .before .before .before .before .before .before .put .ensures .registers, c .before .before .before .before .before .before .before .before .before .before .before .before .before .before .stores-packed .ensures, c .before .before .before .before .before .before .before .before .before .before .before .before .before .unit-of .ensures);
+      words = rw (c .before .before .before .before .before .before .before .before .put .ensures .words, c .before .before .before .before .before .before .before .before .before .before .before .before .before .before .stores-packed .ensures, c .before .before .before .before .before .before .before .before .before .before .before .before .before .unit-of .ensures);
+      places = rw (c .before .before .before .before .before .before .before .before .put .ensures .places, c .before .before .before .before .before .before .before .before .before .before .before .before .before .before .stores-packed .ensures);
     }
 
 pub finish-spec : {M : Type 1} → statement M
 finish-spec =
     tie.close
     (tie.spec
-    stores-on-requires
-    compute-requires
-    set-flags-requires
+    stores-packed-requires
+    unit-of-requires
+    flags-after-packed-requires
     put-requires
     step-up-requires
     step-up-requires-2

@@ -1,7 +1,7 @@
 use mathlib.Core.Path.{sym, _∙_}
 use borrow.Author.Tests.{not-true, not-false}
 use borrow.Author.Needs.{needs}
-use Rattle.step.proofs.StepLaws.{puts-none, puts-memory, puts-register}
+use Rattle.step.proofs.Steps.{puts-none, puts-memory, puts-register}
 use Rattle.step.proofs.put.put.Statement.{statement}
 use Rattle.step.proofs.put.put.Tie as tie
 

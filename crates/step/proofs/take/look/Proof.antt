@@ -1,6 +1,6 @@
 use mathlib.Core.Path.{_∙_, sym}
 use borrow.Author.Needs.{needs}
-use Rattle.step.proofs.OperandLaws.{taken-memory, taken-direct}
+use Rattle.step.proofs.Operands.{taken-memory, taken-direct}
 use Rattle.step.proofs.take.look.Statement.{statement}
 use Rattle.step.proofs.take.look.Tie as tie
 

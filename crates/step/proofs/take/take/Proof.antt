@@ -1,5 +1,6 @@
 use borrow.Author.Needs.{needs}
-use Rattle.step.proofs.StepLaws.{takes-there, takes-back, restored}
+use Rattle.model.proofs.Operands.{restored}
+use Rattle.step.proofs.Steps.{takes-there, takes-back}
 use Rattle.step.proofs.take.take.Statement.{statement}
 use Rattle.step.proofs.take.take.Tie as tie
 

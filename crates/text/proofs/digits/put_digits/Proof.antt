@@ -1,14 +1,12 @@
--- The digits still to be put in give the whole text.
 use Prim.Native.Nat.{_≤_}
-use mathlib.Core.Path.{refl, sym, _∙_}
-use mathlib.Core.Path.{_≡_}
+use mathlib.Core.Path.{_≡_, refl, sym, _∙_}
 use native.Mathlib.Nat.{mod-lt}
 use native.Mathlib.Omega.{arith}
 use lib.ListN.{length}
 use lib.Seq.{sets}
 use denote.Ref.{now}
+use Rattle.model.proofs.Stores.{sets-out}
 use Rattle.text.specs.Text.{digits}
-use Rattle.text.proofs.Stores.{sets-out}
 use Rattle.text.proofs.Figures.{digits-turn}
 use Rattle.text.proofs.digits.put_digits.Statement.{statement}
 use Rattle.text.proofs.digits.put_digits.Tie as tie

@@ -1,0 +1,56 @@
+-- Demand 3 for the two public calls, from the model's agreement and the calls' contracts.
+use Prim.Native.Nat.{ℕ}
+use mathlib.Core.Path.{_≡_, refl, sym, ap, _∙_}
+use mathlib.Core.List.{List}
+use native.Mathlib.Omega.{arith}
+use Rattle.model.specs.declared.GateState.{GateState}
+use Rattle.model.specs.declared.Ending.{Ending}
+use Rattle.model.specs.declared.Ending.the-variants.{Finished, Outside}
+use Rattle.model.specs.declared.Verdict.{Verdict}
+use Rattle.model.specs.declared.Verdict.the-variants.{Accepted}
+use Rattle.model.specs.Refusals.{_then_, memoryFits, waitsFit, runVerdict, gateVerdict}
+use Rattle.model.specs.Interpreter.{Run, begin, interpret}
+use Rattle.model.specs.GateMachine.{Gate, gate, gateRun}
+use Rattle.model.specs.Agreement.{machineOf, gateFrom, interpreterFrom}
+use Rattle.model.proofs.Verdicts.{then-accepted, accepted}
+use Rattle.model.proofs.Agreed.{agreement}
+use Rattle.model.proofs.Valid.{resting, valid-verdict}
+use Rattle.interpreter.specs.declared.RunAnswer.{RunAnswer}
+use Rattle.interpreter.specs.Calls.{runAnswer, runResult}
+use Rattle.interpreter.proofs.Answers.{returned, left-in}
+use Rattle.agreement.specs.TwoRuns.{Start, InStep, TwoRuns, SameVerdict}
+use Rattle.agreement.proofs.Series.{series-as-one}
+
+pub same-verdict : SameVerdict
+unfolding gateVerdict runVerdict
+same-verdict memory waits start h =
+    let v = valid-verdict start (resting start (rw (h .row) (omega arith)) (rw (h .position) (omega arith)) (h .begun) (h .left)) in
+    ap (λ (w : Verdict). memoryFits memory then waitsFit waits then w) v ∙ ap (λ (w : Verdict). memoryFits memory then w) (then-accepted (waitsFit waits))
+
+finished-as : (e : Ending) → runAnswer e ≡ RunAnswer.Finished → e ≡ Finished
+finished-as Finished q = refl
+finished-as Outside q = absurd (let z : _≡_ {A = ℕ} 0 1 = cc in omega arith)
+
+outside-as : (e : Ending) → runAnswer e ≡ RunAnswer.Outside → e ≡ Outside
+outside-as Finished q = absurd (let z : _≡_ {A = ℕ} 0 1 = cc in omega arith)
+outside-as Outside q = refl
+
+-- the claim for a run i of the model
+claim : (memory waits : List ℕ) (start : GateState) (n k : ℕ) → Start start → (i : Run) → i ≡ interpret waits n (interpreterFrom start memory)
+    → (g : Gate) → g ≡ gateRun waits k (gateFrom start memory)
+    → InStep n k (runResult Accepted (machineOf start) i) (i .memory) (g .finished) (g .state) (g .memory)
+claim memory waits start n k h i p g q =
+    let a = agreement waits start memory n k (record { row = h .row; begun = h .begun }) in
+    record {
+      marks = rw (q, p) (a .marks);
+      all = λ e. rw p (a .all (rw p at (finished-as (i .ending) e)));
+      outside = λ e. rw (q, p) (a .outside (rw p at (outside-as (i .ending) e)));
+    }
+
+pub two-runs : TwoRuns
+two-runs memory waits start n k h r words c z f s words′ w =
+    let v : runVerdict memory waits ≡ Accepted = accepted (runVerdict memory waits) (sym (c .number) ∙ z) in
+    let i = interpret waits n (begin (machineOf start) memory 0) in
+    let p : i ≡ interpret waits n (interpreterFrom start memory) = rw (h .position) in
+    let q = series-as-one waits memory start k f s words′ (same-verdict memory waits start h ∙ v) w in
+    rw (returned memory waits (machineOf start) n v c, left-in memory waits (machineOf start) n v c) (claim memory waits start n k h i p (gate s words′ f) q)

@@ -1,2 +1,0 @@
-pub mod Effects
-pub mod Packing

@@ -1,0 +1,24 @@
+use mathlib.Core.Path.{sym}
+use lib.ListN.{length}
+use borrow.Author.Tests.{lt-ltb}
+use borrow.Author.Needs.{needs}
+use Rattle.model.specs.Waits.{nextPosition}
+use Rattle.model.proofs.Waits.{next-stays}
+use Rattle.gate_machine.proofs.access.next_position.Statement.{statement}
+use Rattle.gate_machine.proofs.access.next_position.Tie as tie
+
+wide-requires : tie.Need-wide-requires
+wide-requires c κs = search needs
+
+add-result : tie.Need-add-result
+add-result c = search needs
+
+returns : tie.Need-returns
+unfolding nextPosition
+returns c = rw (lt-ltb (c .before .before .before .args .position) (length (c .before .before .before .args .waits .now)) (rw (c .before .wide .ensures) at (c .if1 .taken)))
+
+returns-2 : tie.Need-returns-2
+returns-2 c = sym (next-stays (c .before .before .before .args .waits .now) (c .before .before .before .args .position) (rw (c .before .wide .ensures) at (c .if1 .left)))
+
+pub next-position-spec : {M : Type 1} → statement M
+next-position-spec = tie.close (tie.spec wide-requires add-result returns returns-2)

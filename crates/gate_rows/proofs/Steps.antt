@@ -1,0 +1,48 @@
+-- A row's work with its own step of the table: it leads where the model's row does, and finishes an instruction where that does.
+use Prim.Native.Nat.{ℕ}
+use mathlib.Core.Path.{_≡_, refl, sym, ap, _∙_}
+use mathlib.Core.Bool.{Bool, true, false, cond}
+use mathlib.Core.List.{List}
+use lib.ListN.{getD}
+use Rattle.model.specs.declared.GateState.{GateState}
+use Rattle.model.specs.Operands.{operandA, operandB, inMemory}
+use Rattle.model.specs.GateMachine.{Gate, gate, withRow, rows, work}
+use Rattle.model.proofs.Cases.{Each, past, _▸_}
+use Rattle.step_table.specs.declared.Step.{Step}
+use Rattle.step_table.specs.Table.{stepTable, stepOf, marksFinish}
+use Rattle.gate_rows.specs.declared.latches.Latches.{Latches}
+use Rattle.gate_rows.specs.Work.{stateOf, leads, Works, counted}
+
+-- the model's row n from state s, with the step of row n, after f instructions
+abbrev by-step : ℕ → GateState → List ℕ → ℕ → Gate
+by-step n s memory f =
+    let g = getD rows n (λ h. h) (gate s memory 0) in
+    gate (withRow (leads (stepOf n) s n) (g .state)) (g .memory) (counted (marksFinish (stepOf n)) f)
+
+branch : (b : Bool) (x y : ℕ) (u v : GateState) → u .row ≡ x → v .row ≡ y → cond b x y ≡ cond b u v .row
+branch true x y u v p q = sym p
+branch false x y u v p q = sym q
+
+same-row : (x : ℕ) (s : GateState) → x ≡ s .row → withRow x s ≡ s
+same-row x s e = rw e
+
+-- row n's step does its work
+step-rows : (s : GateState) (memory : List ℕ) (f : ℕ) → Each (λ n. by-step n s memory f ≡ getD rows n (λ g. g) (gate s memory f))
+unfolding stepOf stepTable
+step-rows s memory f =
+    refl ▸ refl ▸ refl
+    ▸ ap (λ (t : GateState). gate t memory f) (same-row _ _ (branch (inMemory (operandA (s .instruction))) 4 5 _ _ refl refl))
+    ▸ refl
+    ▸ ap (λ (t : GateState). gate t memory f) (same-row _ _ (branch (inMemory (operandB (s .instruction))) 6 7 _ _ refl refl))
+    ▸ refl ▸ refl ▸ refl ▸ refl ▸ refl ▸ refl
+    ▸ past (λ n. refl)
+
+-- with its own step of the table, a row's function does the model's work
+pub worked : (s : Latches) (step : Step) (regs memory : List ℕ) → step ≡ stepOf (s .row)
+    → {s′ : Latches} {regs′ memory′ : List ℕ} → Works s step regs memory s′ regs′ memory′
+    → (f : ℕ) → gate (stateOf regs′ s′) memory′ (counted (marksFinish step) f) ≡ work (gate (stateOf regs s) memory f)
+unfolding work
+worked s step regs memory e w f =
+    (λ i. gate (w .state i) (w .words i) (counted (marksFinish step) f))
+    ∙ ap (λ (t : Step). let g = getD rows (s .row) (λ h. h) (gate (stateOf regs s) memory 0) in gate (withRow (leads t (stateOf regs s) (s .row)) (g .state)) (g .memory) (counted (marksFinish t) f)) e
+    ∙ step-rows (stateOf regs s) memory f .at (s .row)

@@ -1,0 +1,199 @@
+-- The shared loop: where it stands after i instructions, one turn more, and its two ends.
+use Prim.Native.Nat.{ℕ, _+_, _*_, _≤_, _<_, _^_}
+use mathlib.Core.Path.{_≡_, refl, sym, ap, subst, _∙_}
+use mathlib.Core.Bool.{Bool, true, false, cond, _&&_}
+use mathlib.Core.List.{List, [], _∷_, _++_, append-nil}
+use native.Mathlib.Nat.{add-assoc}
+use native.Mathlib.Numerals.{add-one}
+use native.Mathlib.Omega.{arith}
+use lib.ListN.{length}
+use Rattle.model.specs.declared.Machine.{Machine}
+use Rattle.model.specs.declared.Ending.the-variants.{Finished, Outside}
+use Rattle.model.specs.Waits.{waitAt}
+use Rattle.model.specs.Interpreter as I
+use Rattle.model.specs.Words.{overlay}
+use Rattle.model.specs.Journal.{Pair, storedBy, journalPairs, journalWords}
+use Rattle.model.specs.Packed.{packedOf, flagsOf}
+use Rattle.model.proofs.Cases.{cond-true, cond-false, tells}
+use Rattle.model.proofs.Packed.{unpacks}
+use Rattle.model.proofs.Bounds.{clocks-le}
+use Rattle.model.proofs.Runs.{runAt, outside-stays, outside-pairs, pairs-le, noted-length, noted-words}
+use Rattle.step.specs.declared.Stepped.{Stepped}
+use Rattle.step.specs.Steps.{journaled, steppedOf, stoppedAt, Steps}
+use Rattle.interpreter.specs.declared.clocks.Spent.{Spent}
+use Rattle.interpreter.specs.declared.engine.Ended.{Ended}
+use Rattle.interpreter.specs.Clocks.{spentOf}
+use Rattle.interpreter.specs.Engine.{endedAt, EngineEnds}
+
+-- ---- what one step says
+
+module _ {regs memory journal : List ℕ} {pairs flags : ℕ} {regs′ memory′ journal′ : List ℕ} {s : Stepped} (h : Steps regs memory journal pairs flags regs′ memory′ journal′ s) where
+  abbrev m : Machine
+  m = I.machine regs (flagsOf flags)
+
+  is-inside : {v : Bool} → s .inside ≡ v → I.inside memory m ≡ v
+  is-inside e = sym (tells (λ (s : Stepped). s .inside) (I.inside memory m) refl refl (h .result)) ∙ e
+
+  is-stepped : s .inside ≡ true → s ≡ steppedOf memory m pairs
+  is-stepped e = h .result ∙ sym (cond-true (steppedOf memory m pairs) (stoppedAt flags pairs) (is-inside e))
+
+  next-regs : s .inside ≡ true → regs′ ≡ I.nextMachine memory m .regs
+  next-regs e = h .registers ∙ sym (cond-true (I.nextMachine memory m .regs) regs (is-inside e))
+
+  next-flags : s .inside ≡ true → flagsOf (s .flags) ≡ I.nextMachine memory m .flags
+  next-flags e = ap (λ (s : Stepped). flagsOf (s .flags)) (is-stepped e) ∙ unpacks (I.nextMachine memory m .flags)
+
+  next-words : s .inside ≡ true → memory′ ≡ I.nextMemory memory m
+  next-words e = h .words ∙ sym (cond-true (I.nextMemory memory m) memory (is-inside e))
+
+  next-places : s .inside ≡ true → journal′ ≡ journaled memory m journal pairs
+  next-places e = h .places ∙ sym (cond-true (journaled memory m journal pairs) journal (is-inside e))
+
+  same-regs : s .inside ≡ false → regs′ ≡ regs
+  same-regs e = h .registers ∙ sym (cond-false (I.nextMachine memory m .regs) regs (is-inside e))
+
+  same-words : s .inside ≡ false → memory′ ≡ memory
+  same-words e = h .words ∙ sym (cond-false (I.nextMemory memory m) memory (is-inside e))
+
+  same-places : s .inside ≡ false → journal′ ≡ journal
+  same-places e = h .places ∙ sym (cond-false (journaled memory m journal pairs) journal (is-inside e))
+
+  -- one turn of the definition
+  module _ (waits : List ℕ) (p i c : ℕ) where
+    abbrev at : I.Run
+    at = runAt m memory p i c
+
+    advances : s .inside ≡ true → {w : Spent} → w ≡ spentOf waits (record { clocks = c; position = p }) (s .oa) (s .ob) (s .stored)
+        → I.advance waits at ≡ runAt (I.machine regs′ (flagsOf (s .flags))) memory′ (w .position) (i + 1) (w .clocks)
+    unfolding I.advance I.execute
+    advances e f =
+        ap (λ (t : Bool). cond t (I.execute waits at) (I.stop Outside at)) (is-inside e)
+        ∙ rw (next-regs e, next-flags e, next-words e, f, is-stepped e, add-assoc c (I.baseClocks memory m))
+
+    stops : s .inside ≡ false → I.advance waits at ≡ I.stop Outside at
+    unfolding I.advance
+    stops e = ap (λ (t : Bool). cond t (I.execute waits at) (I.stop Outside at)) (is-inside e)
+
+    former-is : (u b : Bool) (a f g : ℕ) → _≡_ {A = List Pair} (cond (u && b) (record { address = a; former = f } ∷ []) []) (cond (u && b) (record { address = a; former = cond b f g } ∷ []) [])
+    former-is true true a f g = refl
+    former-is true false a f g = refl
+    former-is false b a f g = refl
+
+    stores : s .inside ≡ true
+        → storedBy at ≡ cond (I.storesToMemory memory m) (record { address = I.addressB memory m; former = I.valueB memory m } ∷ []) []
+    unfolding storedBy
+    stores e = rw (is-inside e) (former-is (I.isStored memory m) _ _ _ _)
+
+    stores-none : s .inside ≡ false → storedBy at ≡ []
+    unfolding storedBy
+    stores-none e = rw (is-inside e)
+
+-- ---- the loop
+
+module _ (memory₀ waits journal₀ : List ℕ) (start : Machine) (count : ℕ) where
+  abbrev first : I.Run
+  first = I.begin start memory₀ 0
+
+  abbrev pairsAt : ℕ → List Pair
+  pairsAt i = journalPairs waits i first
+
+  -- after i instructions, all inside
+  pub record At (memory journal regs : List ℕ) (flags position clocks pairs i : ℕ) : Type 0 where
+    pub state : I.interpret waits i first ≡ runAt (I.machine regs (flagsOf flags)) memory position i clocks
+    pub counted : pairs ≡ length (pairsAt i)
+    pub journaled : 2 * count ≤ length journal₀ → journal ≡ overlay (journalWords (pairsAt i)) journal₀
+    pub below : i ≤ count
+    pub words : length memory ≡ length memory₀
+    pub places : length journal ≡ length journal₀
+
+  module _ {memory journal regs : List ℕ} {flags position clocks pairs i : ℕ} (a : At memory journal regs flags position clocks pairs i) (less : i < count) where
+    -- with waits of 16 bits and counts of 32 bits, the clocks fit 64 bits by far
+    pub clocks-fit : ((p : ℕ) → waitAt waits p ≤ 65535) → count < 2 ^ 32 → clocks < 2 ^ 61
+    clocks-fit short few = omega (arith, ap (λ (r : I.Run). r .clocks) (a .state), clocks-le waits 65535 short i first)
+
+    module _ {regs′ memory′ journal′ : List ℕ} {s : Stepped} (h : Steps regs memory journal pairs flags regs′ memory′ journal′ s) where
+      next : I.interpret waits (i + 1) first ≡ I.advance waits (runAt (I.machine regs (flagsOf flags)) memory position i clocks)
+      unfolding I.interpret
+      next = ap (λ (n : ℕ). I.interpret waits n first) (add-one i) ∙ ap (I.advance waits) (a .state)
+
+      next-pairs : pairsAt (i + 1) ≡ pairsAt i ++ storedBy (runAt (I.machine regs (flagsOf flags)) memory position i clocks)
+      unfolding journalPairs
+      next-pairs = ap pairsAt (add-one i) ∙ ap (λ (r : I.Run). pairsAt i ++ storedBy r) (a .state)
+
+      pub turn : s .inside ≡ true → {w : Spent} → w ≡ spentOf waits (record { clocks = clocks; position = position }) (s .oa) (s .ob) (s .stored)
+          → count < 2 ^ 32 → length memory′ ≡ length memory → length journal′ ≡ length journal
+          → At memory′ journal′ regs′ (s .flags) (w .position) (w .clocks) (s .pairs) (i + 1)
+      turn e f few lm lj =
+          let p : Pair = record { address = I.addressB memory (m h); former = I.valueB memory (m h) } in
+          let q : pairsAt (i + 1) ≡ pairsAt i ++ cond (I.storesToMemory memory (m h)) (p ∷ []) [] = next-pairs ∙ ap (λ (l : List Pair). pairsAt i ++ l) (stores h waits position i clocks e) in
+          let below : pairs < count = omega (arith, a .counted, pairs-le waits i first) in
+          record {
+            state = next ∙ advances h waits position i clocks e f;
+            counted = ap (λ (s : Stepped). s .pairs) (is-stepped h e) ∙ noted-length (pairsAt i) p pairs (a .counted) (omega arith) (I.storesToMemory memory (m h)) ∙ ap length (sym q);
+            journaled = λ room. next-places h e ∙ noted-words (pairsAt i) p pairs (a .counted) journal journal₀ (omega arith) (a .journaled room) (I.storesToMemory memory (m h)) ∙ ap (λ (l : List Pair). overlay (journalWords l) journal₀) (sym q);
+            below = omega arith;
+            words = lm ∙ a .words;
+            places = lj ∙ a .places;
+          }
+
+      outside : s .inside ≡ false → {ended : Ended} → ended ≡ endedAt Outside (I.machine regs′ (flagsOf flags)) i clocks pairs
+          → EngineEnds memory₀ waits journal₀ start count memory′ journal′ ended
+      unfolding I.stop
+      outside e g =
+          let stopped : I.interpret waits (i + 1) first ≡ I.stop Outside (runAt (I.machine regs (flagsOf flags)) memory position i clocks) = next ∙ stops h waits position i clocks e in
+          let out : I.interpret waits (i + 1) first .ending ≡ Outside = ap (λ (r : I.Run). r .ending) stopped in
+          let ran : I.interpret waits count first ≡ I.stop Outside (runAt (I.machine regs (flagsOf flags)) memory position i clocks) = outside-stays waits first (omega arith) out ∙ stopped in
+          let same : pairsAt count ≡ pairsAt i = outside-pairs waits first (omega arith) out ∙ next-pairs ∙ ap (λ (l : List Pair). pairsAt i ++ l) (stores-none h waits position i clocks e) ∙ append-nil (pairsAt i) in
+          record {
+            result = rw (g, ran, same, same-regs h e, a .counted);
+            words = rw (ran, same-words h e);
+            pairs = λ room. same-places h e ∙ a .journaled room ∙ ap (λ (l : List Pair). overlay (journalWords l) journal₀) (sym same);
+          }
+
+  finished : {memory journal regs : List ℕ} {flags position clocks pairs i : ℕ} → At memory journal regs flags position clocks pairs i → count ≤ i
+      → {ended : Ended} → ended ≡ endedAt Finished (I.machine regs (flagsOf flags)) i clocks pairs
+      → EngineEnds memory₀ waits journal₀ start count memory journal ended
+  finished {memory} {journal} {regs} {flags} {position} {clocks} {pairs} {i} a h g =
+      let e : count ≡ i = omega (arith, a .below) in
+      record {
+        result = rw (g, e, a .state, a .counted);
+        words = rw (e, a .state);
+        pairs = λ room. a .journaled room ∙ ap (λ (n : ℕ). overlay (journalWords (pairsAt n)) journal₀) (sym e);
+      }
+
+-- ---- from the packed flags of a start
+
+abbrev pub unpackedStart : Machine → ℕ → Machine
+unpackedStart start flags = I.machine (start .regs) (flagsOf flags)
+
+module _ (memory waits journal : List ℕ) (start : Machine) (count : ℕ) {flags₀ : ℕ} (packs : flags₀ ≡ packedOf (start .flags)) where
+  same-start : unpackedStart start flags₀ ≡ start
+  same-start = rw (packs, unpacks (start .flags))
+
+  pub begins : At memory waits journal (unpackedStart start flags₀) count memory journal (start .regs) flags₀ 0 0 0 0
+  unfolding I.interpret journalPairs journalWords
+  begins =
+      record {
+        state = refl;
+        counted = refl;
+        journaled = λ _. refl;
+        below = omega arith;
+        words = refl;
+        places = refl;
+      }
+
+  from-start : {memory′ journal′ : List ℕ} {e : Ended} → EngineEnds memory waits journal (unpackedStart start flags₀) count memory′ journal′ e → EngineEnds memory waits journal start count memory′ journal′ e
+  from-start {memory′} {journal′} {e} h = subst (λ (s : Machine). EngineEnds memory waits journal s count memory′ journal′ e) same-start h
+
+  pub ends-outside : {words places regs : List ℕ} {flags position clocks pairs i : ℕ}
+      → At memory waits journal (unpackedStart start flags₀) count words places regs flags position clocks pairs i → i < count
+      → {regs′ memory′ journal′ : List ℕ} {s : Stepped} → Steps regs words places pairs flags regs′ memory′ journal′ s
+      → s .inside ≡ false → {ended : Ended} → ended ≡ endedAt Outside (I.machine regs′ (flagsOf flags)) i clocks pairs
+      → EngineEnds memory waits journal start count memory′ journal′ ended
+  ends-outside a less h e g = from-start (outside memory waits journal (unpackedStart start flags₀) count a less h e g)
+
+  pub ends-finished : {words places regs : List ℕ} {flags position clocks pairs i : ℕ}
+      → At memory waits journal (unpackedStart start flags₀) count words places regs flags position clocks pairs i → count ≤ i
+      → {ended : Ended} → ended ≡ endedAt Finished (I.machine regs (flagsOf flags)) i clocks pairs
+      → EngineEnds memory waits journal start count words places ended
+  ends-finished a h g = from-start (finished memory waits journal (unpackedStart start flags₀) count a h g)

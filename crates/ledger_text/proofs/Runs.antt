@@ -1,0 +1,112 @@
+-- A run of the interpreter told one instruction at a time: where it stands, one instruction more, and its text.
+use Prim.Native.Nat.{ℕ, suc, _+_, _-_, _≤_, _<_, zero-le}
+use mathlib.Core.Path.{_≡_, refl, sym, ap, ap₂, _∙_}
+use mathlib.Core.List.{List, [], _++_, append-nil}
+use native.Mathlib.Nat.{zero-add}
+use native.Mathlib.Numerals.{add-one}
+use native.Mathlib.Omega.{arith}
+use Rattle.model.specs.declared.Machine.{Machine}
+use Rattle.model.specs.declared.Ending.the-variants.{Finished, Outside}
+use Rattle.model.specs.Interpreter.{Run, pc, instruction, begin, execute, stop, advance, interpret}
+use Rattle.model.proofs.Cases.{onward}
+use Rattle.model.proofs.Waits.{position-stays}
+use Rattle.model.proofs.Runs.{runAt, one-more, outside-stays}
+use Rattle.ledger_lines.specs.Lines.{mostLines, line, lineBetween, lines, heading, endingText, endingWord, runText}
+
+-- ---- one instruction more
+
+-- a run of one instruction
+abbrev pub one : Machine → List ℕ → Run
+one m memory = interpret [] 1 (begin m memory 0)
+
+module _ (m : Machine) (memory : List ℕ) (ran clocks : ℕ) where
+  abbrev here : Run
+  here = runAt m memory 0 ran clocks
+
+  abbrev alone : Run
+  alone = begin m memory 0
+
+  goes : (one m memory .ran ≡ 0 → ⊥) → advance [] here ≡ runAt (one m memory .machine) (one m memory .memory) 0 (ran + 1) (clocks + one m memory .clocks)
+  unfolding interpret advance execute stop
+  goes =
+      one-more [] (λ (o : Run). (o .ran ≡ 0 → ⊥) → advance [] here ≡ runAt (o .machine) (o .memory) 0 (ran + 1) (clocks + o .clocks)) alone
+      (λ _ t _. rw (t, position-stays [] 0 zero-le, zero-add))
+      (λ _ _ ne. absurd (ne refl))
+      (λ e _. cc)
+
+  pub stops : one m memory .ran ≡ 0 → (advance [] here ≡ stop Outside here) × (one m memory .memory ≡ memory)
+  unfolding interpret advance execute stop
+  stops =
+      one-more [] (λ (o : Run). o .ran ≡ 0 → (advance [] here ≡ stop Outside here) × (o .memory ≡ memory)) alone
+      (λ _ _ e. absurd (omega arith))
+      (λ _ t _. (rw t, refl))
+      (λ e _. (cc, refl))
+
+-- ---- a run and its text after n instructions, from `start`
+
+module _ (start : Run) where
+  -- nothing changes after "outside"
+  between-same : (r : Run) → r .ending ≡ Outside → lineBetween r r ≡ []
+  unfolding lineBetween
+  between-same r e = rw e
+
+  lines-stay : {n k : ℕ} → n ≤ k → interpret [] n start .ending ≡ Outside → lines k start ≡ lines n start
+  unfolding lines
+  lines-stay {n} h e =
+      onward (λ (k : ℕ). lines k start ≡ lines n start) h refl
+      (λ k l p.
+      let i : interpret [] k start ≡ interpret [] n start = outside-stays [] start l e in
+      let j : interpret [] (suc k) start ≡ interpret [] n start = outside-stays [] start (omega arith) e in
+      ap₂ (λ (x y : List ℕ). x ++ y) p (ap₂ lineBetween i j ∙ between-same (interpret [] n start) e)
+      ∙ append-nil (lines n start))
+
+  module _ {m : Machine} {memory : List ℕ} {n clocks : ℕ} (at : interpret [] n start ≡ runAt m memory 0 n clocks) where
+    after : (one m memory .ran ≡ 0 → ⊥)
+        → interpret [] (suc n) start ≡ runAt (one m memory .machine) (one m memory .memory) 0 (n + 1) (clocks + one m memory .clocks)
+    unfolding interpret
+    after ne = ap (advance []) at ∙ goes m memory n clocks ne
+
+    pub next-run : (one m memory .ran ≡ 0 → ⊥)
+        → interpret [] (n + 1) start ≡ runAt (one m memory .machine) (one m memory .memory) 0 (n + 1) (clocks + one m memory .clocks)
+    next-run ne = ap (λ (i : ℕ). interpret [] i start) (add-one n) ∙ after ne
+
+    pub next-lines : (one m memory .ran ≡ 0 → ⊥)
+        → lines (n + 1) start
+        ≡ lines n start ++ line (n + 1) (pc memory m) (instruction memory m) (one m memory .clocks) (one m memory .machine .flags)
+    unfolding lines lineBetween
+    next-lines ne =
+        let k = one m memory .clocks in
+        let own : clocks + k - clocks ≡ k = omega arith in
+        ap (λ (i : ℕ). lines i start) (add-one n)
+        ∙ ap (λ (l : List ℕ). lines n start ++ l)
+        (ap₂ lineBetween at (after ne) ∙ ap (λ (c : ℕ). line (n + 1) (pc memory m) (instruction memory m) c (one m memory .machine .flags)) own)
+
+    last-run : one m memory .ran ≡ 0 → interpret [] (suc n) start ≡ stop Outside (runAt m memory 0 n clocks)
+    unfolding interpret
+    last-run e = ap (advance []) at ∙ stops m memory n clocks e .0
+
+    last-lines : one m memory .ran ≡ 0 → lines (suc n) start ≡ lines n start
+    unfolding lines lineBetween stop
+    last-lines e = ap₂ (λ (a b : Run). lines n start ++ lineBetween a b) at (last-run e) ∙ append-nil (lines n start)
+
+    is-outside : one m memory .ran ≡ 0 → interpret [] (suc n) start .ending ≡ Outside
+    unfolding stop
+    is-outside e = ap (λ (r : Run). r .ending) (last-run e)
+
+    pub outside-run : n < mostLines → one m memory .ran ≡ 0 → interpret [] mostLines start ≡ stop Outside (runAt m memory 0 n clocks)
+    outside-run h e = outside-stays [] start h (is-outside e) ∙ last-run e
+
+    pub outside-text : n < mostLines → one m memory .ran ≡ 0 → heading ++ lines n start ++ endingText (endingWord Outside) n clocks ≡ runText start
+    unfolding runText stop
+    outside-text h e =
+        sym
+        (ap₂ (λ (l : List ℕ) (r : Run). heading ++ l ++ endingText (endingWord (r .ending)) (r .ran) (r .clocks))
+        (lines-stay h (is-outside e) ∙ last-lines e)
+        (outside-run h e))
+
+    pub finished-text : n ≡ mostLines → heading ++ lines n start ++ endingText (endingWord Finished) n clocks ≡ runText start
+    unfolding runText
+    finished-text e =
+        sym
+        (ap (λ (i : ℕ). heading ++ lines i start ++ endingText (endingWord (interpret [] i start .ending)) (interpret [] i start .ran) (interpret [] i start .clocks)) (sym e)
+        ∙ ap (λ (r : Run). heading ++ lines n start ++ endingText (endingWord (r .ending)) (r .ran) (r .clocks)) at)

@@ -1,0 +1,109 @@
+-- The loop that puts the text of a run in: where it stands, one line more, and its two ends.
+use Prim.Native.Nat.{ℕ, _+_, _≤_, _<_}
+use mathlib.Core.Path.{_≡_, refl, sym, ap, _∙_}
+use mathlib.Core.List.{List, []}
+use native.Mathlib.Omega.{arith}
+use lib.ListN.{length}
+use Rattle.model.specs.declared.Machine.{Machine}
+use Rattle.model.specs.declared.Ending.the-variants.{Finished, Outside}
+use Rattle.model.specs.declared.Verdict.the-variants.{Accepted}
+use Rattle.model.specs.Refusals.{mostWords}
+use Rattle.model.specs.Interpreter.{Run, pc, instruction, begin, stop, interpret}
+use Rattle.model.proofs.Runs.{runAt}
+use Rattle.model.proofs.Verdicts.{run-accepted}
+use Rattle.interpreter.specs.declared.RunResult.{RunResult}
+use Rattle.interpreter.specs.Calls.{runResult, Runs}
+use Rattle.interpreter.proofs.Answers.{returned, left-in}
+use Rattle.ledger_lines.specs.Lines.{mostLines, line, lines, heading, endingText, endingWord}
+use Rattle.ledger_lines.proofs.Lengths.{clocks-small, lines-length}
+use Rattle.ledger_text.specs.Parts.{Extends, RunPuts}
+use Rattle.ledger_text.proofs.Parts.{_▸_}
+use Rattle.ledger_text.proofs.Runs.{one, stops, next-run, next-lines, outside-run, outside-text, finished-text}
+
+-- ---- the loop, from a buffer that holds the header
+
+module _ (start : Machine) (memory₀ out₀ : List ℕ) (at₀ : ℕ) where
+  abbrev first : Run
+  first = begin start memory₀ 0
+
+  -- after so many lines
+  pub record At (memory out : List ℕ) (machine : Machine) (at ran clocks : ℕ) : Type 0 where
+    pub state : interpret [] ran first ≡ runAt machine memory 0 ran clocks
+    pub text : Extends out₀ at₀ (lines ran first) out at
+    pub below : ran ≤ mostLines
+    pub words : length memory ≡ length memory₀
+    pub room : length out ≡ length out₀
+
+  pub begins : At memory₀ out₀ start at₀ 0 0
+  unfolding interpret lines
+  begins =
+      record {
+        state = refl;
+        text = record { buffer = refl; place = omega arith };
+        below = omega arith;
+        words = refl;
+        room = refl;
+      }
+
+  module _ {memory out : List ℕ} {machine : Machine} {at ran clocks : ℕ} (a : At memory out machine at ran clocks) where
+    pub at-small : at ≤ at₀ + 480
+    at-small = omega (arith, a .text .place, lines-length start memory₀ ran (omega (arith, a .below)), a .below)
+
+    clocks-so-far : clocks ≤ 176
+    clocks-so-far = omega (arith, ap (λ (x : Run). x .clocks) (a .state), clocks-small ran first, a .below)
+
+    module _ {memory′ : List ℕ} {r : RunResult} (h : Runs memory [] machine 1 memory′ r)
+        (some : 0 < length memory) (most : length memory ≤ mostWords) where
+      now-is : r ≡ runResult Accepted machine (one machine memory)
+      now-is = returned memory [] machine 1 (run-accepted memory some most) h
+
+      words-are : memory′ ≡ one machine memory .memory
+      words-are = left-in memory [] machine 1 (run-accepted memory some most) h
+
+      pub clocks-fit : clocks + r .clocks ≤ 200
+      clocks-fit =
+          omega (
+            arith,
+            clocks-so-far,
+            ap (λ (x : RunResult). x .clocks) now-is,
+            clocks-small 1 (begin machine memory 0),
+          )
+
+      -- one line more
+      pub turn : {out′ : List ℕ} {at′ word : ℕ} → (r .ran ≡ 0 → ⊥) → ran < mostLines → length memory′ ≡ length memory → length out′ ≡ length out
+          → word ≡ instruction memory machine
+          → Extends out at (line (ran + 1) (pc memory machine) word (r .clocks) (r .machine .flags)) out′ at′
+          → At memory′ out′ (r .machine) at′ (ran + 1) (clocks + r .clocks)
+      turn went less same same-room word-is put =
+          let goes : one machine memory .ran ≡ 0 → ⊥ = λ e. went (ap (λ (x : RunResult). x .ran) now-is ∙ e) in
+          record {
+            state = next-run first (a .state) goes ∙ rw (now-is, words-are);
+            text = rw (next-lines first (a .state) goes) (a .text ▸ (rw (now-is, word-is) at put));
+            below = omega arith;
+            words = same ∙ a .words;
+            room = same-room ∙ a .room;
+          }
+
+      -- the run comes outside
+      pub outside : {out₋ out′ : List ℕ} {q : ℕ} → r .ran ≡ 0 → ran < mostLines → Extends out₋ 0 heading out₀ at₀
+          → Extends out at (endingText (endingWord Outside) ran clocks) out′ q → RunPuts start memory₀ out₋ memory′ out′ q
+      unfolding stop
+      outside none less top put =
+          let stays : one machine memory .ran ≡ 0 = sym (ap (λ (x : RunResult). x .ran) now-is) ∙ none in
+          record {
+            text = rw (outside-text first (a .state) less stays) at (top ▸ a .text ▸ put);
+            words =
+                words-are
+                ∙ stops machine memory ran clocks stays .1
+                ∙ sym (ap (λ (x : Run). x .memory) (outside-run first (a .state) less stays));
+          }
+
+    -- all instructions ran
+    pub finished : {out₋ out′ : List ℕ} {q : ℕ} → mostLines ≤ ran → Extends out₋ 0 heading out₀ at₀
+        → Extends out at (endingText (endingWord Finished) ran clocks) out′ q → RunPuts start memory₀ out₋ memory out′ q
+    finished most top put =
+        let all : ran ≡ mostLines = omega (arith, a .below) in
+        record {
+          text = rw (finished-text first (a .state) all) at (top ▸ a .text ▸ put);
+          words = sym (ap (λ (x : Run). x .memory) (a .state)) ∙ ap (λ (n : ℕ). interpret [] n first .memory) all;
+        }

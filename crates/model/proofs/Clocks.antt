@@ -1,0 +1,39 @@
+-- One clock by its cases: an access's last clock, one before it, an address that is absent, a row that is no access.
+use Prim.Native.Nat.{ℕ, zero, suc}
+use mathlib.Core.Path.{_≡_, refl}
+use mathlib.Core.Bool.{Bool, true, false, cond}
+use mathlib.Core.List.{List}
+use Rattle.model.specs.declared.GateState.{GateState}
+use Rattle.model.specs.Words.{present}
+use Rattle.model.specs.GateMachine.{Gate, withAccess, onState, work, isAccess, remaining, positionNow, workOrWait}
+
+module _ (waits : List ℕ) (g : Gate) where
+  abbrev s : GateState
+  s = g .state
+
+  abbrev here : Bool
+  here = present (g .memory) (s .address)
+
+  -- the access over, and not over
+  abbrev pub accessOver : Gate → Gate
+  accessOver = onState (λ memory. withAccess (positionNow waits s) false 0)
+
+  abbrev lasting : ℕ → Gate → Gate
+  lasting left = onState (λ memory. withAccess (positionNow waits s) true left)
+
+  -- a property of what the clock does to any machine in g's state and memory, as to g itself
+  pub one-clock : (P : (Gate → Gate) → Type 0)
+      → (isAccess (s .row) ≡ true → here ≡ true → remaining waits s ≡ 0 → P (λ h. work (accessOver h)))
+      → (isAccess (s .row) ≡ true → here ≡ true → (w : ℕ) → remaining waits s ≡ suc w → P (lasting (suc w)))
+      → (isAccess (s .row) ≡ true → here ≡ false → P (λ h. h))
+      → (isAccess (s .row) ≡ false → P work)
+      → P (λ h. cond (isAccess (s .row)) (cond here (workOrWait (remaining waits s) (positionNow waits s) h) h) (work h))
+  unfolding workOrWait
+  one-clock P last on gone plain = go (isAccess (s .row)) refl here refl (remaining waits s) refl
+    where
+      go : (a : Bool) → isAccess (s .row) ≡ a → (t : Bool) → here ≡ t → (w : ℕ) → remaining waits s ≡ w
+          → P (λ h. cond a (cond t (workOrWait w (positionNow waits s) h) h) (work h))
+      go true a true t zero e = last a t e
+      go true a true t (suc w) e = on a t w e
+      go true a false t w e = gone a t
+      go false a t _ w e = plain a

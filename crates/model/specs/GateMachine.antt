@@ -1,0 +1,165 @@
+-- The gate machine: twelve rows of a step table, the access protocol, one clock, and the run of k clocks. Document 01, "Clocks".
+use Prim.Native.Nat.{ℕ, zero, suc, _+_, _-_}
+use mathlib.Core.Bool.{Bool, true, false, cond}
+use mathlib.Core.List.{List, [], _∷_}
+use lib.ListN.{getD, set}
+use Rattle.model.specs.declared.Flags.{Flags}
+use Rattle.model.specs.declared.Operand.{Operand}
+use Rattle.model.specs.declared.GateState.{GateState}
+use Rattle.model.specs.Words.{inc, wordAt, present, storeWord}
+use Rattle.model.specs.Operands.{operandA, operandB, registerOf, inMemory, stepped, stepDown, stepUp, registerWord}
+use Rattle.model.specs.Alu.{alu, flagsAfter, stores}
+use Rattle.model.specs.Waits.{waitAt, nextPosition}
+
+-- ---- a state with one part changed
+
+abbrev pub withRow : ℕ → GateState → GateState
+withRow x s = record { regs = s .regs; flags = s .flags; row = x; instruction = s .instruction; address = s .address; a = s .a; b = s .b; result = s .result; position = s .position; begun = s .begun; left = s .left }
+
+abbrev pub withRegs : List ℕ → GateState → GateState
+withRegs x s = record { regs = x; flags = s .flags; row = s .row; instruction = s .instruction; address = s .address; a = s .a; b = s .b; result = s .result; position = s .position; begun = s .begun; left = s .left }
+
+abbrev pub withFlags : Flags → GateState → GateState
+withFlags x s = record { regs = s .regs; flags = x; row = s .row; instruction = s .instruction; address = s .address; a = s .a; b = s .b; result = s .result; position = s .position; begun = s .begun; left = s .left }
+
+abbrev pub withInstruction : ℕ → GateState → GateState
+withInstruction x s = record { regs = s .regs; flags = s .flags; row = s .row; instruction = x; address = s .address; a = s .a; b = s .b; result = s .result; position = s .position; begun = s .begun; left = s .left }
+
+abbrev pub withAddress : ℕ → GateState → GateState
+withAddress x s = record { regs = s .regs; flags = s .flags; row = s .row; instruction = s .instruction; address = x; a = s .a; b = s .b; result = s .result; position = s .position; begun = s .begun; left = s .left }
+
+abbrev pub withA : ℕ → GateState → GateState
+withA x s = record { regs = s .regs; flags = s .flags; row = s .row; instruction = s .instruction; address = s .address; a = x; b = s .b; result = s .result; position = s .position; begun = s .begun; left = s .left }
+
+abbrev pub withB : ℕ → GateState → GateState
+withB x s = record { regs = s .regs; flags = s .flags; row = s .row; instruction = s .instruction; address = s .address; a = s .a; b = x; result = s .result; position = s .position; begun = s .begun; left = s .left }
+
+abbrev pub withResult : ℕ → GateState → GateState
+withResult x s = record { regs = s .regs; flags = s .flags; row = s .row; instruction = s .instruction; address = s .address; a = s .a; b = s .b; result = x; position = s .position; begun = s .begun; left = s .left }
+
+-- the access in hand: position in the wait list, whether it has begun, clocks left
+abbrev pub withAccess : ℕ → Bool → ℕ → GateState → GateState
+withAccess p begun left s = record { regs = s .regs; flags = s .flags; row = s .row; instruction = s .instruction; address = s .address; a = s .a; b = s .b; result = s .result; position = p; begun = begun; left = left }
+
+-- ---- the whole machine
+
+-- between instructions, with nothing latched and no access begun
+abbrev pub atRest : List ℕ → Flags → GateState
+atRest regs flags = record { regs = regs; flags = flags; row = 0; instruction = 0; address = 0; a = 0; b = 0; result = 0; position = 0; begun = false; left = 0 }
+
+-- the machine with its memory, and the instructions that have finished
+pub record Gate : Type 0 where
+  pub state : GateState
+  pub memory : List ℕ
+  pub finished : ℕ
+
+abbrev pub gate : GateState → List ℕ → ℕ → Gate
+gate s memory finished = record { state = s; memory = memory; finished = finished }
+
+-- ---- the step table
+
+-- the work of a row, with where it leads; most rows change the state alone
+abbrev pub onState : (List ℕ → GateState → GateState) → Gate → Gate
+onState f g = gate (f (g .memory) (g .state)) (g .memory) (g .finished)
+
+abbrev pub addressPc : List ℕ → GateState → GateState
+addressPc memory s = withRow 1 (withAddress (wordAt (s .regs) 0) s)
+
+abbrev pub readInstruction : List ℕ → GateState → GateState
+readInstruction memory s = withRow 2 (withInstruction (wordAt memory (s .address)) s)
+
+abbrev pub stepPc : List ℕ → GateState → GateState
+stepPc memory s = withRow 3 (withRegs (stepped inc 0 (s .regs)) s)
+
+-- step an operand's register down; then its word is the address, or the operand where that is direct
+abbrev pub prepare : Operand → (read next : ℕ) → (ℕ → GateState → GateState) → GateState → GateState
+prepare o read next latch s =
+    let down = withRegs (stepDown o (s .regs)) s in
+    let word = registerWord o (down .regs) in
+    cond (inMemory o) (withRow read (withAddress word down)) (withRow next (latch word down))
+
+abbrev pub prepareA : List ℕ → GateState → GateState
+prepareA memory s = prepare (operandA (s .instruction)) 4 5 withA s
+
+abbrev pub readA : List ℕ → GateState → GateState
+readA memory s = withRow 5 (withA (wordAt memory (s .address)) s)
+
+abbrev pub prepareB : List ℕ → GateState → GateState
+prepareB memory s = prepare (operandB (s .instruction)) 6 7 withB s
+
+abbrev pub readB : List ℕ → GateState → GateState
+readB memory s = withRow 7 (withB (wordAt memory (s .address)) s)
+
+abbrev pub compute : List ℕ → GateState → GateState
+compute memory s =
+    let out = alu (s .instruction) (s .flags) (s .a) (s .b) in
+    let store : ℕ = cond (inMemory (operandB (s .instruction))) 9 8 in
+    withRow (cond (stores (s .instruction) (s .flags)) store 10)
+    (withFlags (flagsAfter (s .instruction) (s .flags) out) (withResult (out .result) s))
+
+abbrev pub writeRegister : List ℕ → GateState → GateState
+writeRegister memory s =
+    withRow 10 (withRegs (set (s .regs) (registerOf (operandB (s .instruction))) (s .result)) s)
+
+abbrev pub writeMemory : Gate → Gate
+writeMemory g =
+    gate (withRow 10 (g .state)) (storeWord (g .memory) (g .state .address) (g .state .result)) (g .finished)
+
+abbrev pub stepUpA : List ℕ → GateState → GateState
+stepUpA memory s = withRow 11 (withRegs (stepUp (operandA (s .instruction)) (s .regs)) s)
+
+abbrev pub stepUpB : Gate → Gate
+stepUpB g =
+    let s = g .state in
+    gate (withRow 0 (withRegs (stepUp (operandB (s .instruction)) (s .regs)) s)) (g .memory) (g .finished + 1)
+
+abbrev pub rows : List (Gate → Gate)
+rows =
+    onState addressPc  -- 0: address from r0
+    ∷ onState readInstruction  -- 1: read instruction
+    ∷ onState stepPc  -- 2: r0 plus 1
+    ∷ onState prepareA  -- 3: A step down; address, or latch A if direct
+    ∷ onState readA  -- 4: read A
+    ∷ onState prepareB  -- 5: as 3 for B
+    ∷ onState readB  -- 6: read B
+    ∷ onState compute  -- 7: compute; decide storing on old flags; set flags
+    ∷ onState writeRegister  -- 8: store to register
+    ∷ writeMemory  -- 9: store to memory
+    ∷ onState stepUpA  -- 10: A step up
+    ∷ stepUpB  -- 11: B step up; one more finished
+    ∷ []
+
+-- the work of the row that the machine is in; there is no row past the table
+unfoldable pub work : Gate → Gate
+work g = getD rows (g .state .row) (λ h. h) g
+
+-- rows 1, 4, 6 and 9
+unfoldable pub isAccess : ℕ → Bool
+isAccess row =
+    getD (false ∷ true ∷ false ∷ false ∷ true ∷ false ∷ true ∷ false ∷ false ∷ true ∷ []) row false
+
+-- ---- one clock
+
+-- an access's clocks after this one, and its position in the wait list: its first clock takes an entry
+unfoldable pub remaining : List ℕ → GateState → ℕ
+remaining waits s = cond (s .begun) (s .left - 1) (waitAt waits (s .position))
+
+unfoldable pub positionNow : List ℕ → GateState → ℕ
+positionNow waits s = cond (s .begun) (s .position) (nextPosition waits (s .position))
+
+-- an access with `remaining` clocks after this one: on the last one the row's work is done
+unfoldable pub workOrWait : (remaining position : ℕ) → Gate → Gate
+workOrWait zero p g = work (onState (λ memory. withAccess p false 0) g)
+workOrWait (suc w) p g = onState (λ memory. withAccess p true (suc w)) g
+
+-- an absent address is never acknowledged
+unfoldable pub clock : List ℕ → Gate → Gate
+clock waits g =
+    let s = g .state in
+    cond (isAccess (s .row))
+    (cond (present (g .memory) (s .address)) (workOrWait (remaining waits s) (positionNow waits s) g) g)
+    (work g)
+
+unfoldable pub gateRun : List ℕ → ℕ → Gate → Gate
+gateRun waits zero g = g
+gateRun waits (suc k) g = clock waits (gateRun waits k g)

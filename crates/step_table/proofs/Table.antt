@@ -1,0 +1,34 @@
+-- The table, row by row, and its mark of an access.
+use Prim.Native.Nat.{ℕ, zero, suc, _-_, _≤_, _<_}
+use mathlib.Core.Path.{_≡_, refl, sym, ap, _∙_}
+use mathlib.Core.Bool.{false}
+use mathlib.Core.List.{List, [], _∷_}
+use native.Mathlib.Nat.{le-of-suc-le-suc, not-suc-le-zero}
+use lib.ListN.{length, getD, List·getD-eq-default}
+use Rattle.model.specs.GateMachine.{isAccess}
+use Rattle.model.proofs.Cases.{Each, past, _▸_}
+use Rattle.step_table.specs.declared.Step.{Step}
+use Rattle.step_table.specs.Table.{stepOf, stepTable, marksAccess}
+
+there : (l : List Step) (i : ℕ) → i < length l → (d e : Step) → getD l i d ≡ getD l i e
+there [] i h d e = absurd (not-suc-le-zero h)
+there (x ∷ l) zero h d e = refl
+there (x ∷ l) (suc i) h d e = there l i (le-of-suc-le-suc h) d e
+
+-- a row's place in the table has its step
+pub step-there : {table : List Step} → table ≡ stepTable → {i r : ℕ} → i ≡ r → r < 12 → (d : Step) → getD table i d ≡ stepOf r
+unfolding stepOf stepTable
+step-there p {i} {r} e h d = rw (p, e) (there stepTable r h d (r, r, r, 0))
+
+marks : Each (λ r. marksAccess (stepOf r) ≡ isAccess r)
+unfolding stepOf stepTable isAccess
+marks = refl ▸ refl ▸ refl ▸ refl ▸ refl ▸ refl ▸ refl ▸ refl ▸ refl ▸ refl ▸ refl ▸ refl ▸ past (λ r. refl)
+
+-- a row's mark says whether it is an access
+pub access-mark : (r : ℕ) → marksAccess (stepOf r) ≡ isAccess r
+access-mark = marks .at
+
+-- past the table there is no access
+pub access-past : (r : ℕ) → 12 ≤ r → false ≡ isAccess r
+unfolding stepOf stepTable
+access-past r h = sym (ap marksAccess (List·getD-eq-default stepTable (r, r, r, 0) {n = r} h)) ∙ access-mark r
