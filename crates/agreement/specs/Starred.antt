@@ -2,19 +2,20 @@
 use Prim.Native.Nat.{ℕ}
 use mathlib.Core.List.{List, [], _∷_}
 use lib.Dec.{T}
-use Rattle.model.specs.Agreement.{machineOf}
+use Rattle.model.specs.GateMachine.{gate}
+use Rattle.model.specs.Agreement.{gateMark, machineOf}
 use Rattle.model.specs.Starred.{Case, cases, startOf, hasAll}
 use Rattle.interpreter.specs.declared.RunResult.{RunResult}
 use Rattle.interpreter.specs.Calls.{Runs}
 use Rattle.gate_machine.specs.declared.GateResult.{GateResult}
 use Rattle.gate_machine.specs.Calls.{GateRuns}
-use Rattle.agreement.specs.TwoRuns.{runMark, clockMark}
+use Rattle.agreement.specs.TwoRuns.{runMark}
 
 -- a run of one instruction, and a gate run of as many clocks as it returns, leave what the case expects
 pub record Holds (c : Case) (r : RunResult) (words : List ℕ) : Type 0 where
   pub run : T (hasAll (runMark r words) (r .clocks) (c .expected))
   pub clocks : (g : GateResult) (words′ : List ℕ) → GateRuns (c .memory) (c .waits) (startOf c) (r .clocks) words′ g
-      → T (hasAll (clockMark (g .finished) (g .state) words′) (r .clocks) (c .expected))
+      → T (hasAll (gateMark (gate (g .state) words′ (g .finished))) (r .clocks) (c .expected))
 
 -- whatever the calls return for each case
 abbrev pub AllHold : List Case → Type 0

@@ -25,14 +25,10 @@ pub record Start (s : GateState) : Type 0 where
 abbrev pub runMark : RunResult → List ℕ → Mark
 runMark r memory = markOf (r .ran) (r .machine) memory
 
--- the gate machine's mark: the instructions that its runs finished, the state that the last one returned, and its memory after it
-abbrev pub clockMark : ℕ → GateState → List ℕ → Mark
-clockMark finished s memory = gateMark (gate s memory finished)
-
 -- The run of n instructions returned r and left `words`; k clocks finished f instructions, gave the state s and left `words′`. The marks
 -- are equal exactly when k is the clock total that was returned; a run that finished ran all n; after "outside" no more finish than ran.
 pub record InStep (n k : ℕ) (r : RunResult) (words : List ℕ) (f : ℕ) (s : GateState) (words′ : List ℕ) : Type 0 where
-  pub marks : clockMark f s words′ ≡ runMark r words ↔ (k ≡ r .clocks)
+  pub marks : gateMark (gate s words′ f) ≡ runMark r words ↔ (k ≡ r .clocks)
   pub all : r .answer ≡ RunAnswer.Finished → r .ran ≡ n
   pub outside : r .answer ≡ RunAnswer.Outside → f ≤ r .ran
 

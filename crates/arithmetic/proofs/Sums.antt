@@ -9,15 +9,13 @@ use lib.Dec.{ltb, leb}
 use lib.IntN.{ℤ}
 use lib.Pow.{pow-pos}
 use borrow.Author.Tests.{lt-ltb, le-ltb, le-leb, lt-leb, leb-true, leb-false}
-use Rattle.arithmetic.specs.declared.AluOut.{AluOut}
 use Rattle.arithmetic.specs.Words.{asNumber, topOf, overflowOf, leaves}
-use Rattle.arithmetic.specs.Alu.{plainOf, sumOf, differenceOf}
+use Rattle.arithmetic.specs.Alu.{answer, plainOf, sumOf, differenceOf}
 use Rattle.arithmetic.proofs.Bits.{one, three, bit-le}
 use Rattle.arithmetic.proofs.Integers.{Is, weight, is-move, is-add, is-minus, is-pos, is-signed, is-leaves}
 
-pub out-eq : {r r′ : ℕ} {c c′ v v′ : Bool} → r ≡ r′ → c ≡ c′ → v ≡ v′
-    → _≡_ {A = AluOut} (record { result = r; carry = c; overflow = v }) (record { result = r′; carry = c′; overflow = v′ })
-out-eq p q s = λ i. record { result = p i; carry = q i; overflow = s i }
+pub same-answer : (k : ℕ) {r r′ : ℕ} {c c′ v v′ : Bool} → r ≡ r′ → c ≡ c′ → v ≡ v′ → answer k r c v ≡ answer k r′ c′ v′
+same-answer k p q s = λ i. answer k (p i) (q i) (s i)
 
 -- what a top bit says
 abbrev Top : Bool → ℕ → ℕ → Type 0
@@ -98,11 +96,11 @@ turned-off x y r c wx wy wr m v (higher e) = lower (omega arith)
 module _ (k x y r : ℕ) (c d : Bool) (hx : x < 2 ^ suc k) (hy : y < 2 ^ suc k) (hr : r < 2 ^ suc k) where
   -- the law of sums
   pub sum-is : r + asNumber d * 2 ^ suc k ≡ x + y + asNumber c
-      → record { result = r; carry = d; overflow = overflowOf (topOf k x) (topOf k y) (topOf k r) } ≡ sumOf k x y c
+      → answer k r d (overflowOf (topOf k x) (topOf k y) (topOf k r)) ≡ sumOf k x y c
   unfolding sumOf
   sum-is e =
       sym
-      (out-eq
+      (same-answer k
       (sum-result (2 ^ k) (2 ^ suc k) x y r c (pow-suc 2 k) hx hy hr (bit-le c) d e)
       (sum-carry (2 ^ k) (2 ^ suc k) x y r c (pow-suc 2 k) hx hy hr (bit-le c) d e)
       (off-leaves k r _
@@ -111,11 +109,11 @@ module _ (k x y r : ℕ) (c d : Bool) (hx : x < 2 ^ suc k) (hy : y < 2 ^ suc k) 
 
   -- the law of differences
   pub difference-is : r + (y + asNumber c) ≡ x + asNumber d * 2 ^ suc k
-      → record { result = r; carry = d; overflow = overflowOf (topOf k r) (topOf k y) (topOf k x) } ≡ differenceOf k x y c
+      → answer k r d (overflowOf (topOf k r) (topOf k y) (topOf k x)) ≡ differenceOf k x y c
   unfolding differenceOf
   difference-is e =
       sym
-      (out-eq
+      (same-answer k
       (diff-result (2 ^ k) (2 ^ suc k) x y r c (pow-suc 2 k) hx hy hr (bit-le c) d e)
       (diff-carry (2 ^ k) (2 ^ suc k) x y r c (pow-suc 2 k) hx hy hr (bit-le c) d e)
       (off-leaves k r _
@@ -147,14 +145,14 @@ turned-overflow = three _ refl refl refl refl refl refl refl refl
 none-top : (k : ℕ) → topOf k 0 ≡ false
 none-top k = lt-leb (2 ^ k) 0 (pow-pos k)
 
-pub none-and : (k x : ℕ) → x < 2 ^ suc k → sumOf k 0 x false ≡ plainOf x
+pub none-and : (k x : ℕ) → x < 2 ^ suc k → sumOf k 0 x false ≡ plainOf k x
 unfolding xor
 none-and k x h =
     sym (sum-is k 0 x x false false (pow-pos (suc k)) h h (omega arith))
-    ∙ out-eq refl refl (ap (λ (t : Bool). overflowOf t (topOf k x) (topOf k x)) (none-top k) ∙ one (λ t. overflowOf false t t ≡ false) refl refl (topOf k x))
+    ∙ same-answer k refl refl (ap (λ (t : Bool). overflowOf t (topOf k x) (topOf k x)) (none-top k) ∙ one (λ t. overflowOf false t t ≡ false) refl refl (topOf k x))
 
-pub and-none : (k x : ℕ) → x < 2 ^ suc k → sumOf k x 0 false ≡ plainOf x
+pub and-none : (k x : ℕ) → x < 2 ^ suc k → sumOf k x 0 false ≡ plainOf k x
 unfolding xor
 and-none k x h =
     sym (sum-is k x 0 x false false h (pow-pos (suc k)) h (omega arith))
-    ∙ out-eq refl refl (ap (λ (t : Bool). overflowOf (topOf k x) t (topOf k x)) (none-top k) ∙ one (λ t. overflowOf t false t ≡ false) refl refl (topOf k x))
+    ∙ same-answer k refl refl (ap (λ (t : Bool). overflowOf (topOf k x) t (topOf k x)) (none-top k) ∙ one (λ t. overflowOf t false t ≡ false) refl refl (topOf k x))

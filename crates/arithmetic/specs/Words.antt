@@ -1,4 +1,4 @@
--- Words of any width from 1 bit up, as numbers, and their signed reading. Document 01, "Machine and instruction word", C and V. A width is
+-- Words of any width from 1 bit up, as numbers, and their signed reading. Document 01, "Machine and instruction word", C, V and N. A width is
 -- written k + 1, so that its half power is `2 ^ k`.
 use Prim.Native.Nat.{ℕ, suc, _+_, _*_, _^_}
 use mathlib.Core.Bool.{Bool, true, false, cond, _&&_, _||_, xor}

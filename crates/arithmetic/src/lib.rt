@@ -3,8 +3,11 @@ mod word;
 
 pub use word::word_unit;
 
+// A result with its four flags. In this order it has twelve bytes: eight would travel as one word, to be taken apart by each caller.
 pub struct AluOut {
-    pub result: u32,
     pub carry: bool,
     pub overflow: bool,
+    pub result: u32,
+    pub negative: bool,
+    pub zero: bool,
 }

@@ -2,32 +2,37 @@
 use super::AluOut;
 ghost use mathlib.Core.Path.{_≡_};
 ghost use Rattle.arithmetic.specs.Words.{topOf, overflowOf};
-ghost use Rattle.arithmetic.specs.Alu.{plainOf, sumOf, differenceOf, halvedOf, aluOf};
+ghost use Rattle.arithmetic.specs.Alu.{answer, plainOf, sumOf, differenceOf, halvedOf, aluOf};
 
-// The sign of a word.
-fn top(x: u32) -> bool
-    ensures { λ r. ⌜ r ≡ topOf 31 x ⌝ }
-{
-    0x8000_0000 <= x
-}
+// From here on a word's top bit is 1.
+const TOP: u32 = 0x8000_0000;
 
 // Overflow of x + y, which is r, from the three signs; x is r - y, whose overflow is the same.
 fn overflow_of(x: u32, y: u32, r: u32) -> bool
     ensures { λ v. ⌜ v ≡ overflowOf (topOf 31 x) (topOf 31 y) (topOf 31 r) ⌝ }
 {
-    let sign = 0x8000_0000 <= r;
-    ((0x8000_0000 <= x) ^ sign) & ((0x8000_0000 <= y) ^ sign)
+    let sign = TOP <= r;
+    ((TOP <= x) ^ sign) & ((TOP <= y) ^ sign)
+}
+
+// A result with its sign and whether it is zero.
+fn answer(result: u32, carry: bool, overflow: bool) -> AluOut
+    ensures { λ r. ⌜ r ≡ answer 31 result carry overflow ⌝ }
+{
+    AluOut {
+        result,
+        carry,
+        overflow,
+        negative: TOP <= result,
+        zero: result == 0,
+    }
 }
 
 // A result that sets neither carry nor overflow.
 fn plain(x: u32) -> AluOut
-    ensures { λ r. ⌜ r ≡ plainOf x ⌝ }
+    ensures { λ r. ⌜ r ≡ plainOf 31 x ⌝ }
 {
-    AluOut {
-        result: x,
-        carry: false,
-        overflow: false,
-    }
+    answer(x, false, false)
 }
 
 // x + y + c.
@@ -36,11 +41,7 @@ fn sum(x: u32, y: u32, c: bool) -> AluOut
 {
     let low = std::num::wrapping_add_u32(x, y);
     let r = std::num::wrapping_add_u32(low, c as u32);
-    AluOut {
-        result: r,
-        carry: (r < x) | (c & (r == x)),
-        overflow: overflow_of(x, y, r),
-    }
+    answer(r, (r < x) | (c & (r == x)), overflow_of(x, y, r))
 }
 
 // x - y - c.
@@ -49,11 +50,7 @@ fn difference(x: u32, y: u32, c: bool) -> AluOut
 {
     let low = std::num::wrapping_sub_u32(x, y);
     let r = std::num::wrapping_sub_u32(low, c as u32);
-    AluOut {
-        result: r,
-        carry: (x < y) | (c & (x == y)),
-        overflow: overflow_of(r, y, x),
-    }
+    answer(r, (x < y) | (c & (x == y)), overflow_of(r, y, x))
 }
 
 // a halved, with the top bit given.
@@ -61,15 +58,11 @@ fn halved(top: bool, a: u32) -> AluOut
     ensures { λ r. ⌜ r ≡ halvedOf 31 top a ⌝ }
 {
     let low = a / 2;
-    AluOut {
-        result: low + 0x8000_0000 * (top as u32),
-        carry: a % 2 == 1,
-        overflow: false,
-    }
+    answer(low + TOP * (top as u32), a % 2 == 1, false)
 }
 
-// The arithmetic unit: result, carry and overflow by the low four bits of the operation.
-pub fn word_unit(operation: u8, a: u32, b: u32, carry: bool) -> AluOut
+// What the unit answers, by the low four bits of the operation.
+fn answered(operation: u8, a: u32, b: u32, carry: bool) -> AluOut
     ensures { λ r. ⌜ r ≡ aluOf operation a b carry ⌝ }
 {
     let op = operation % 16;
@@ -82,7 +75,7 @@ pub fn word_unit(operation: u8, a: u32, b: u32, carry: bool) -> AluOut
         6 => difference(b, a, carry),
         7 => difference(b, a, false),
         8 => halved(carry, a),
-        9 => halved(top(a), a),
+        9 => halved(TOP <= a, a),
         10 => halved(false, a),
         11 => plain(a ^ b),
         12 => plain(a | b),
@@ -90,4 +83,13 @@ pub fn word_unit(operation: u8, a: u32, b: u32, carry: bool) -> AluOut
         14 => plain(!a),
         _ => plain(a),
     }
+}
+
+// The arithmetic unit: the result and its flags by the low four bits of the operation. N and Z are worked out here, once for all
+// operations, which is quicker than in each.
+pub fn word_unit(operation: u8, a: u32, b: u32, carry: bool) -> AluOut
+    ensures { λ r. ⌜ r ≡ aluOf operation a b carry ⌝ }
+{
+    let out = answered(operation, a, b, carry);
+    answer(out.result, out.carry, out.overflow)
 }

@@ -4,8 +4,9 @@
 //   1 program: M, memory, r0..r7, flags, W, waits, n
 //   2 gate state: M, memory, W, waits, r0..r7, flags, row, instruction, address, a, b, result, position, begun, left, k
 //   3 image: room in words, L, then L bytes, padded to a whole word
-// A wait takes a word; flags are one number, C 8, V 4, N 2, Z 1.
+// A gate state is run, and then lent clock by clock. A wait takes a word; flags are one number, C 8, V 4, N 2, Z 1.
 mod input;
+mod lending;
 mod loading;
 mod print;
 mod program;

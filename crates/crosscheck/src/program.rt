@@ -76,7 +76,7 @@ fn between(machine: Machine) -> GateState {
 
 // gate finished row cvnz r0..r7 m0..
 fn gate_line(memory: List, waits: List, start: GateState, clocks: u64) {
-    let run = run_gates(memory, waits, start, clocks);
+    let run = run_gates(memory, waits, start, clocks, false);
     let result = run.result;
     let state = result.state;
     let regs = state.regs;

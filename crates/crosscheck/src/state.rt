@@ -1,4 +1,4 @@
-// A gate state: what a number of clocks makes of it.
+// A gate state: what a number of clocks makes of it, in one run and one at a time.
 use super::input::List;
 use super::input::MOST_LIST;
 use super::input::front_waits;
@@ -8,6 +8,7 @@ use super::input::next_list;
 use super::input::next_machine;
 use super::input::next_number;
 use super::input::next_word;
+use super::lending::clock_by_clock;
 use super::print::print;
 use super::print::print_machine;
 use super::print::print_memory;
@@ -27,14 +28,35 @@ pub struct GateRun {
     pub words: [u32; MOST_LIST],
 }
 
-pub fn run_gates(memory: List, entries: List, start: GateState, clocks: u64) -> GateRun {
+// In one run, or one clock at a time on a state that is lent.
+fn gate_result(
+    memory: &mut [u32],
+    waits: &[u16],
+    start: GateState,
+    clocks: u64,
+    lent: bool,
+) -> GateResult {
+    if lent {
+        return clock_by_clock(memory, waits, start, clocks);
+    }
+    gate_machine::run(memory, waits, start, clocks)
+}
+
+pub fn run_gates(
+    memory: List,
+    entries: List,
+    start: GateState,
+    clocks: u64,
+    lent: bool,
+) -> GateRun {
     let mut words = memory.words;
     let waits = entries.waits;
-    let result = gate_machine::run(
+    let result = gate_result(
         front_words(&mut words, memory.count),
         front_waits(&waits, entries.count),
         start,
         clocks,
+        lent,
     );
     GateRun { result, words }
 }
@@ -58,10 +80,13 @@ fn next_state() -> GateState {
     }
 }
 
-fn print_gate_answer(answer: GateAnswer) {
+fn print_gate_answer(name: &[u8], answer: GateAnswer) {
     match answer {
-        GateAnswer::Ran => print(b"state ran"),
-        GateAnswer::Refused(why) => print_refused(b"state", why),
+        GateAnswer::Ran => {
+            print(name);
+            print(b" ran");
+        }
+        GateAnswer::Refused(why) => print_refused(name, why),
     }
 }
 
@@ -77,19 +102,25 @@ fn print_state(s: GateState) {
     print_number(s.left as u64);
 }
 
-// state ANSWER finished, the state, m0..
+// The line's name, ANSWER finished, the state, m0..
+fn print_gate_run(name: &[u8], run: GateRun, count: usize) {
+    let result = run.result;
+    let answer = result.answer;
+    let state = result.state;
+    let words = run.words;
+    print_gate_answer(name, answer);
+    print_number(result.finished);
+    print_state(state);
+    print_memory(words, count);
+}
+
 pub fn state_case() {
     let memory = next_list();
     let waits = next_list();
     let start = next_state();
     let clocks = next_number(MOST_CLOCKS) as u64;
-    let run = run_gates(memory, waits, start, clocks);
-    let result = run.result;
-    let answer = result.answer;
-    let state = result.state;
-    let words = run.words;
-    print_gate_answer(answer);
-    print_number(result.finished);
-    print_state(state);
-    print_memory(words, memory.count);
+    let run = run_gates(memory, waits, start, clocks, false);
+    let lent = run_gates(memory, waits, start, clocks, true);
+    print_gate_run(b"state", run, memory.count);
+    print_gate_run(b"lent", lent, memory.count);
 }

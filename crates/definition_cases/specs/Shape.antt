@@ -8,8 +8,8 @@ use lib.ListN.{getD}
 use Rattle.model.specs.declared.GateState.{GateState}
 use Rattle.model.specs.declared.Ending.{Ending}
 use Rattle.model.specs.declared.Ending.the-variants.{Finished, Outside}
-use Rattle.model.specs.Packed.{packedOf, flagsOf, latchWords}
-use Rattle.model.specs.Interpreter.{machine, begin, interpret}
+use Rattle.model.specs.Packed.{packedOf, flagsOf, packedMachine, latchWords}
+use Rattle.model.specs.Interpreter.{begin, interpret}
 use Rattle.model.specs.GateMachine.{gateRun}
 use Rattle.model.specs.Agreement.{gateFrom}
 use Rattle.model.specs.Journal.{journalPairs, journalWords}
@@ -31,7 +31,7 @@ pub data RunCase : Type 0 where
 
 abbrev pub runHolds : RunCase → Bool
 runHolds (runCase memory regs flags waits n memory′ regs′ flags′ journal ran clocks outside) =
-    let start = begin (machine regs (flagsOf flags)) memory 0 in
+    let start = begin (packedMachine regs flags) memory 0 in
     let r = interpret waits n start in
     same (r .memory) memory′
     && same (r .machine .regs) regs′

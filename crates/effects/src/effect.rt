@@ -74,8 +74,8 @@ pub fn flags_after_packed(word: u32, flags: u32, out: AluOut) -> u32
     let answer = packed(Flags {
         carry: out.carry,
         overflow: out.overflow,
-        negative: 0x8000_0000 <= out.result,
-        zero: out.result == 0,
+        negative: out.negative,
+        zero: out.zero,
     });
     (flags % 16 & (15 - permits)) | (answer & permits)
 }

@@ -13,7 +13,7 @@ use Rattle.gate_machine.specs.declared.GateAnswer.{GateAnswer}
 use Rattle.gate_machine.specs.declared.GateResult.{GateResult}
 use Rattle.gate_machine.specs.Calls.{gateResult, gateReturned, gateWords, GateRuns}
 
-module _ (memory waits : List ℕ) (start : GateState) (clocks : ℕ) (v : Verdict) (said : v ≡ gateVerdict memory waits start) where
+module _ (memory waits : List ℕ) (start : GateState) (clocks : ℕ) {v : Verdict} (said : v ≡ gateVerdict memory waits start) where
   abbrev end : Gate
   end = gateRun waits clocks (gateFrom start memory)
 
@@ -25,22 +25,29 @@ module _ (memory waits : List ℕ) (start : GateState) (clocks : ℕ) (v : Verdi
   unfolding gateWords
   left e = ap (λ (w : Verdict). leftBy w (end .memory) memory) (sym e ∙ said)
 
-  pub run-carried : v ≡ Accepted → (s : GateState) (m : List ℕ) (f : ℕ) → gate s m f ≡ end
+module _ {memory waits : List ℕ} {start : GateState} {clocks : ℕ} {v : Verdict} (said : v ≡ gateVerdict memory waits start) where
+  pub run-carried : v ≡ Accepted → {s : GateState} {m : List ℕ} {f : ℕ} → gate s m f ≡ gateRun waits clocks (gateFrom start memory)
       → GateRuns memory waits start clocks m (record { answer = GateAnswer.Ran; state = s; finished = f })
-  run-carried e s m f q =
+  run-carried e q =
       record {
-        result = ap (gateResult Accepted start) q ∙ returned e;
-        words = ap (λ (g : Gate). g .memory) q ∙ left e;
+        result = ap (gateResult Accepted start) q ∙ returned memory waits start clocks said e;
+        words = ap (λ (g : Gate). g .memory) q ∙ left memory waits start clocks said e;
         number = ap verdictNumber (sym e ∙ said);
       }
 
-  pub run-refused : (why : Refusal) → v ≡ Refused why
+  pub run-refused : {why : Refusal} → v ≡ Refused why
       → GateRuns memory waits start clocks memory (record { answer = GateAnswer.Refused why; state = start; finished = 0 })
-  run-refused why e = record { result = returned e; words = left e; number = ap verdictNumber (sym e ∙ said) }
+  run-refused e =
+      record {
+        result = returned memory waits start clocks said e;
+        words = left memory waits start clocks said e;
+        number = ap verdictNumber (sym e ∙ said);
+      }
 
 -- what a call that is carried out returns and leaves
-pub carried-out : (memory waits : List ℕ) (start : GateState) (clocks : ℕ) {memory′ : List ℕ} {r : GateResult} → gateVerdict memory waits start ≡ Accepted
-    → GateRuns memory waits start clocks memory′ r → gate (r .state) memory′ (r .finished) ≡ gateRun waits clocks (gateFrom start memory)
+pub carried-out : (memory waits : List ℕ) (start : GateState) (clocks : ℕ) {memory′ : List ℕ} {r : GateResult}
+    → gateVerdict memory waits start ≡ Accepted → GateRuns memory waits start clocks memory′ r
+    → gate (r .state) memory′ (r .finished) ≡ gateRun waits clocks (gateFrom start memory)
 unfolding gateReturned gateWords
 carried-out memory waits start clocks {memory′} {r} e h =
     let g = gateRun waits clocks (gateFrom start memory) in

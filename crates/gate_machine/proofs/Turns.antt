@@ -1,30 +1,28 @@
 -- Laws for the gate machine's code: the clock as access and work, and one turn of the loop.
-use Prim.Native.Nat.{ℕ, _+_}
+use Prim.Native.Nat.{ℕ, _+_, _≤_, _<_}
 use mathlib.Core.Path.{_≡_, refl, sym, ap, _∙_}
 use mathlib.Core.Bool.{Bool, true, false, cond, true≢false}
 use mathlib.Core.List.{List, []}
-use native.Mathlib.Nat.{add-zero}
 use native.Mathlib.Numerals.{add-one}
+use native.Mathlib.Omega.{arith}
 use lib.Dec.{ltb, eqb·suc-zero}
 use lib.ListN.{length}
 use Rattle.arithmetic.specs.Words.{asNumber}
 use Rattle.model.specs.declared.GateState.{GateState}
 use Rattle.model.specs.Words.{present}
 use Rattle.model.specs.GateMachine.{Gate, gate, withAccess, work, isAccess, remaining, positionNow, clock, gateRun}
+use Rattle.model.specs.Agreement.{gateFrom}
 use Rattle.model.proofs.Clocks.{one-clock}
-use Rattle.model.proofs.Blocked.{absent}
+use Rattle.model.proofs.Progress.{finished-slow}
+use Rattle.model.proofs.Blocked.{absent, stands-on}
 use Rattle.step_table.specs.declared.Step.{Step}
 use Rattle.step_table.specs.Table.{stepOf, marksAccess, marksFinish}
 use Rattle.step_table.proofs.Table.{access-mark}
 use Rattle.gate_rows.specs.declared.latches.Latches.{Latches}
-use Rattle.gate_rows.specs.Work.{stateOf, Works, counted}
-use Rattle.gate_rows.proofs.Steps.{worked}
+use Rattle.gate_rows.specs.Work.{stateOf, Works}
+use Rattle.gate_rows.proofs.Steps.{counted-is, worked}
 use Rattle.gate_machine.specs.declared.access.Grant.{Grant}
 use Rattle.gate_machine.specs.Clock.{grantOf, Ticks, Stands}
-
-counted-is : (b : Bool) (f : ℕ) → f + asNumber b ≡ counted b f
-counted-is true f = refl
-counted-is false f = add-zero f
 
 -- ---- one clock is the access, then the row's work
 
@@ -36,10 +34,12 @@ module _ (waits : List ℕ) (s : GateState) (memory : List ℕ) where
   abbrev granting : ℕ → Grant → Gate
   granting f g = cond (g .works) (work (gate (withGrant g) memory f)) (gate (withGrant g) memory f)
 
-  clocked : (access : Bool) → access ≡ isAccess (s .row) → (f : ℕ) → granting f (grantOf access (present memory (s .address)) waits s) ≡ clock waits (gate s memory f)
+  clocked : (access : Bool) → access ≡ isAccess (s .row) → (f : ℕ)
+      → granting f (grantOf access (present memory (s .address)) waits s) ≡ clock waits (gate s memory f)
   unfolding clock grantOf
   clocked access e f =
-      one-clock waits (gate s memory f) (λ (c : Gate → Gate). granting f (grantOf access (present memory (s .address)) waits s) ≡ c (gate s memory f))
+      one-clock waits (gate s memory f)
+      (λ (c : Gate → Gate). granting f (grantOf access (present memory (s .address)) waits s) ≡ c (gate s memory f))
       (λ a h r. rw (e, a, h, r))
       (λ a h w r. rw (e, a, h, r, eqb·suc-zero))
       (λ a h. rw (e, a, h))
@@ -69,10 +69,12 @@ taking g s =
     }
 
 module _ (waits : List ℕ) (s : Latches) (regs memory : List ℕ) (step : Step) (own : step ≡ stepOf (s .row))
-    (g : Grant) (said : g ≡ grantOf (marksAccess step) (ltb (s .address) (length memory)) waits (stateOf [] s)) where
+    {g : Grant} (said : g ≡ grantOf (marksAccess step) (ltb (s .address) (length memory)) waits (stateOf [] s)) where
   granted : (f : ℕ) → granting waits (stateOf regs s) memory f g ≡ clock waits (gate (stateOf regs s) memory f)
   unfolding grantOf remaining positionNow
-  granted f = ap (granting waits (stateOf regs s) memory f) said ∙ clocked waits (stateOf regs s) memory (marksAccess step) (ap marksAccess own ∙ access-mark (s .row)) f
+  granted f =
+      ap (granting waits (stateOf regs s) memory f) said
+      ∙ clocked waits (stateOf regs s) memory (marksAccess step) (ap marksAccess own ∙ access-mark (s .row)) f
 
   stuck-on : Stands waits (stateOf regs (taking g s)) memory (g .stuck)
   stuck-on e f =
@@ -80,7 +82,8 @@ module _ (waits : List ℕ) (s : Latches) (regs memory : List ℕ) (step : Step)
       absent waits (gate (stateOf regs (taking g s)) memory f) (sym (ap marksAccess own ∙ access-mark (s .row)) ∙ gone .0) (gone .1)
 
   -- where no work is done, and where it is
-  pub waits-on : g .works ≡ false → Ticks waits (stateOf regs s) memory (stateOf regs (taking g s)) false memory × Stands waits (stateOf regs (taking g s)) memory (g .stuck)
+  pub waits-on : g .works ≡ false
+      → Ticks waits (stateOf regs s) memory (stateOf regs (taking g s)) false memory × Stands waits (stateOf regs (taking g s)) memory (g .stuck)
   waits-on w = (λ f. rw w at (granted f), stuck-on)
 
   pub works-on : g .works ≡ true → {t : Latches} {regs′ memory′ : List ℕ} → Works (taking g s) step regs memory t regs′ memory′
@@ -89,9 +92,32 @@ module _ (waits : List ℕ) (s : Latches) (regs memory : List ℕ) (step : Step)
 
 -- ---- one turn of the loop
 
-pub turn : (waits : List ℕ) (i : ℕ) (g : Gate) {s : GateState} {m : List ℕ} {f : ℕ} → gate s m f ≡ gateRun waits i g
-    → {t : GateState} (b : Bool) {l : List ℕ} → Ticks waits s m t b l → {n : ℕ} → n ≡ asNumber b
-    → gate t l (f + n) ≡ gateRun waits (i + 1) g
-unfolding gateRun
-turn waits i g {s} {m} {f} e {t} b {l} h {n} d =
-    ap (λ (x : ℕ). gate t l (f + x)) d ∙ ap (gate t l) (counted-is b f) ∙ h f ∙ ap (clock waits) e ∙ sym (ap (λ (x : ℕ). gateRun waits x g) (add-one i))
+-- the clocks done go up, and not past those asked for
+pub done-bounds : {i clocks : ℕ} → i < clocks → (stuck : Bool) {r : ℕ} → r ≡ cond stuck clocks (i + 1) → (i < r) × (r ≤ clocks)
+done-bounds h true e = (omega arith, omega arith)
+done-bounds h false e = (omega arith, omega arith)
+
+module _ (waits : List ℕ) (i clocks : ℕ) (g : Gate) {s : GateState} {m : List ℕ} {f : ℕ} (e : gate s m f ≡ gateRun waits i g) where
+  ticked : {t : GateState} (b : Bool) {l : List ℕ} → Ticks waits s m t b l → gate t l (f + asNumber b) ≡ gateRun waits (i + 1) g
+  unfolding gateRun
+  ticked {t} b {l} h = ap (gate t l) (counted-is b f) ∙ h f ∙ ap (clock waits) e ∙ sym (ap (λ (x : ℕ). gateRun waits x g) (add-one i))
+
+  -- a machine that is stuck stands as it will after all the clocks
+  pub turn : i < clocks → {t : GateState} (b : Bool) {l : List ℕ} (stuck : Bool) → Ticks waits s m t b l → Stands waits t l stuck
+      → {r : ℕ} → r ≡ cond stuck clocks (i + 1) → gate t l (f + asNumber b) ≡ gateRun waits r g
+  turn less b true h stands d = rw d (stands-on waits (i + 1) clocks g (ticked b h) (stands refl _) (omega arith))
+  turn less b false h stands d = rw d (ticked b h)
+
+-- ---- a run from a state
+
+module _ (waits memory : List ℕ) (i : ℕ) (begun : GateState) {s : GateState} {m : List ℕ} {f : ℕ}
+    (e : gate s m f ≡ gateRun waits i (gateFrom begun memory)) where
+  -- no clock finishes more than one instruction
+  pub finished-le : f ≤ i
+  finished-le = omega (arith, ap (λ (x : Gate). x .finished) e, finished-slow waits i (gateFrom begun memory))
+
+  pub run-ends : {clocks : ℕ} → i ≤ clocks → clocks ≤ i → {start end : GateState} → begun ≡ start → end ≡ s
+      → gate end m f ≡ gateRun waits clocks (gateFrom start memory)
+  run-ends {clocks} below all p q =
+      let n : clocks ≡ i = omega arith in
+      rw (q, n, ← p) e

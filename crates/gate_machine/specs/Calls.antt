@@ -55,6 +55,6 @@ pub record Clocks (memory waits : List ℕ) (state : GateState) (memory′ : Lis
 -- on the state that was lent, which is advanced
 pub record LentClock (memory waits : List ℕ) (state : GateState) (memory′ : List ℕ) (state′ : GateState) (r : ClockResult) : Type 0 where
   pub result : r ≡ clockResult (gateReturned memory waits state 1)
-  pub machine : state′ ≡ gateReturned memory waits state 1 .state
+  pub advanced : state′ ≡ gateReturned memory waits state 1 .state
   pub words : memory′ ≡ gateWords memory waits state 1
   pub number : gateNumber (r .answer) ≡ verdictNumber (gateVerdict memory waits state)

@@ -13,7 +13,7 @@ use Rattle.gate_machine.specs.declared.access.Grant.{Grant}
 abbrev pub acknowledgedAt : (left p : ℕ) → Grant
 acknowledgedAt left p = record { position = p; left = left; begun = not (eqb left 0); works = eqb left 0; stuck = false }
 
--- the access as it was; without work it is so on every clock
+-- the access as it was; where no work is done, no later clock does any
 abbrev pub untouchedAt : Bool → GateState → Grant
 untouchedAt works s = record { position = s .position; left = s .left; begun = s .begun; works = works; stuck = not works }
 

@@ -7,7 +7,7 @@ use machine::run_clocks;
 use model::GateState;
 use model::Refusal;
 use model::Verdict;
-use refusals::gate_verdict;
+use verdicts::gate_verdict;
 ghost use Rattle.gate_machine.specs.Calls.{GateRuns, Clocks, LentClock};
 
 pub enum GateAnswer {

@@ -11,7 +11,8 @@ use step_table::FINISHES;
 use step_table::Step;
 use step_table::steps;
 ghost use mathlib.Core.Path.{_≡_};
-ghost use Prim.Native.Nat.{_≤_};
+ghost use mathlib.Core.Bool.{cond};
+ghost use Prim.Native.Nat.{_+_, _≤_, _<_};
 ghost use lib.ListN.{length};
 ghost use Rattle.model.specs.Refusals.{mostWaits, gateVerdict};
 ghost use Rattle.model.specs.GateMachine.{gate, gateRun};
@@ -57,7 +58,15 @@ fn tick(s: Latches, step: Step, regs: &mut [u32; 8], memory: &mut [u32], waits: 
     }
 }
 
-// The step table and the registers stay in place: a clock copies neither. A machine that is stuck is not clocked to the end.
+// How many clocks are done after one more: all, where no further clock changes anything.
+fn clocks_done(i: u64, clocks: u64, stuck: bool) -> u64
+    requires { ⌜ i < clocks ⌝ }
+    ensures { λ r. ⌜ r ≡ cond stuck clocks (i + 1) ⌝ }
+{
+    if stuck { clocks } else { i + 1 }
+}
+
+// The step table and the registers stay in place: a clock copies neither.
 pub fn run_clocks(memory: &mut [u32], waits: &[u16], start: GateState, clocks: u64) -> GateEnd
     requires { ⌜ gateVerdict (now memory) (now waits) start ≡ Verdict.Accepted ⌝ }
     ensures { λ r. ⌜ gate (r .state) (now (memory .exit)) (r .finished) ≡ gateRun (now (waits .entry)) clocks (gateFrom start (now (memory .entry))) ⌝ }
@@ -73,13 +82,7 @@ pub fn run_clocks(memory: &mut [u32], waits: &[u16], start: GateState, clocks: u
         let next = t.latches;
         s = next;
         finished += t.finished as u64;
-        i += 1;
-        if t.stuck {
-            return GateEnd {
-                state: state_of(regs, s),
-                finished,
-            };
-        }
+        i = clocks_done(i, clocks, t.stuck);
     }
     GateEnd {
         state: state_of(regs, s),

@@ -1,9 +1,11 @@
 -- A row's work with its own step of the table: it leads where the model's row does, and finishes an instruction where that does.
-use Prim.Native.Nat.{ℕ}
+use Prim.Native.Nat.{ℕ, _+_}
 use mathlib.Core.Path.{_≡_, refl, sym, ap, _∙_}
 use mathlib.Core.Bool.{Bool, true, false, cond}
 use mathlib.Core.List.{List}
+use native.Mathlib.Nat.{add-zero}
 use lib.ListN.{getD}
+use Rattle.arithmetic.specs.Words.{asNumber}
 use Rattle.model.specs.declared.GateState.{GateState}
 use Rattle.model.specs.Operands.{operandA, operandB, inMemory}
 use Rattle.model.specs.GateMachine.{Gate, gate, withRow, rows, work}
@@ -12,6 +14,11 @@ use Rattle.step_table.specs.declared.Step.{Step}
 use Rattle.step_table.specs.Table.{stepTable, stepOf, marksFinish}
 use Rattle.gate_rows.specs.declared.latches.Latches.{Latches}
 use Rattle.gate_rows.specs.Work.{stateOf, leads, Works, counted}
+
+-- a count goes up by one or stays
+pub counted-is : (b : Bool) (f : ℕ) → f + asNumber b ≡ counted b f
+counted-is true f = refl
+counted-is false f = add-zero f
 
 -- the model's row n from state s, with the step of row n, after f instructions
 abbrev by-step : ℕ → GateState → List ℕ → ℕ → Gate
@@ -44,5 +51,9 @@ pub worked : (s : Latches) (step : Step) (regs memory : List ℕ) → step ≡ s
 unfolding work
 worked s step regs memory e w f =
     (λ i. gate (w .state i) (w .words i) (counted (marksFinish step) f))
-    ∙ ap (λ (t : Step). let g = getD rows (s .row) (λ h. h) (gate (stateOf regs s) memory 0) in gate (withRow (leads t (stateOf regs s) (s .row)) (g .state)) (g .memory) (counted (marksFinish t) f)) e
+    ∙ ap
+    (λ (t : Step).
+    let g = getD rows (s .row) (λ h. h) (gate (stateOf regs s) memory 0) in
+    gate (withRow (leads t (stateOf regs s) (s .row)) (g .state)) (g .memory) (counted (marksFinish t) f))
+    e
     ∙ step-rows (stateOf regs s) memory f .at (s .row)

@@ -8,7 +8,7 @@ use Rattle.model.specs.declared.Operand.{Operand}
 use Rattle.model.specs.declared.GateState.{GateState}
 use Rattle.model.specs.Operands.{operandA, operandB, inMemory}
 use Rattle.model.specs.Alu.{stores}
-use Rattle.model.specs.GateMachine.{gate, withRow, work}
+use Rattle.model.specs.GateMachine.{stateWith, gate, withRow, work}
 use Rattle.step_table.specs.declared.Step.{Step}
 use Rattle.step_table.specs.Table.{memoryRow, directRow, skippedRow}
 use Rattle.gate_rows.specs.declared.latches.Latches.{Latches}
@@ -16,19 +16,7 @@ use Rattle.gate_rows.specs.declared.latches.Latches.{Latches}
 -- registers and latches are a state of the gate machine
 abbrev pub stateOf : List ℕ → Latches → GateState
 stateOf regs s =
-    record {
-      regs = regs;
-      flags = s .flags;
-      row = s .row;
-      instruction = s .instruction;
-      address = s .address;
-      a = s .a;
-      b = s .b;
-      result = s .result;
-      position = s .position;
-      begun = s .begun;
-      left = s .left;
-    }
+    stateWith regs (s .flags) (s .row) (s .instruction) (s .address) (s .a) (s .b) (s .result) (s .position) (s .begun) (s .left)
 
 -- what a row does to the latches alone: f of the state, whatever the registers
 abbrev pub Becomes : Latches → (GateState → GateState) → Latches → Type 0

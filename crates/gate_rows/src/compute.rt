@@ -18,7 +18,8 @@ ghost use Rattle.model.specs.GateMachine.{withRow, compute};
 ghost use Rattle.step_table.specs.Table.{memoryRow, directRow, skippedRow};
 ghost use Rattle.gate_rows.specs.Work.{Becomes, storeRow};
 
-// The arithmetic unit of gates, told by the instruction word. A move goes past it, which spares it the network: operation 0 gives the same.
+// The arithmetic unit of gates, told by the instruction word. A move goes past the network, for its speed: operation 0 gives the same. The
+// unit on words is not called here: with a second caller it is no part of the interpreter's loop any more, which costs that a fifth.
 fn unit_of(word: u32, flags: Flags, a: u32, b: u32) -> AluOut
     ensures { λ r. ⌜ r ≡ alu word flags a b ⌝ }
 {
@@ -27,6 +28,8 @@ fn unit_of(word: u32, flags: Flags, a: u32, b: u32) -> AluOut
             result: a,
             carry: false,
             overflow: false,
+            negative: 0x8000_0000 <= a,
+            zero: a == 0,
         };
     }
     gate_unit(operation_of(word), a, b, flags.carry)

@@ -8,16 +8,16 @@ use native.Mathlib.Omega.{arith}
 use lib.ListN.{length, getD}
 use Rattle.arithmetic.specs.declared.AluOut.{AluOut}
 use Rattle.arithmetic.specs.Words.{asNumber, topOf, overflowOf}
-use Rattle.arithmetic.specs.Alu.{sumOf, differenceOf}
+use Rattle.arithmetic.specs.Alu.{answer, sumOf, differenceOf}
 use Rattle.arithmetic.proofs.Bits.{xor-false}
-use Rattle.arithmetic.proofs.Sums.{out-eq, sum-is, difference-is, turned, top-complement, turned-overflow}
+use Rattle.arithmetic.proofs.Sums.{same-answer, sum-is, difference-is, turned, top-complement, turned-overflow}
 use Rattle.gates.specs.Gates.{value}
 use Rattle.gates.specs.Theorems.{Adds}
 use Rattle.gates.proofs.Worth.{value-below, value-top}
 
 -- the adder with its flags, the carry turned round for a difference
 abbrev pub flagged : ℕ → List Bool → List Bool → List Bool → Bool → Bool → AluOut
-flagged k p q s d turn = record { result = value s; carry = xor d turn; overflow = overflowOf (getD p k false) (getD q k false) (getD s k false) }
+flagged k p q s d turn = answer k (value s) (xor d turn) (overflowOf (getD p k false) (getD q k false) (getD s k false))
 
 module _ (k : ℕ) (p q s : List Bool) (f d : Bool) (lp : length p ≡ suc k) (lq : length q ≡ suc k) (h : Adds p q f s d) where
   ls : length s ≡ suc k
@@ -31,12 +31,12 @@ module _ (k : ℕ) (p q s : List Bool) (f d : Bool) (lp : length p ≡ suc k) (l
 
   pub adder-sum : flagged k p q s d false ≡ sumOf k (value p) (value q) f
   adder-sum =
-      out-eq refl (xor-false d) tops
+      same-answer k refl (xor-false d) tops
       ∙ sum-is k (value p) (value q) (value s) f d (value-below p (suc k) lp) (value-below q (suc k) lq) (value-below s (suc k) ls) adds
 
   pub adder-difference : (y : ℕ) (c : Bool) → f ≡ not c → value q + y + 1 ≡ 2 ^ suc k → flagged k p q s d true ≡ differenceOf k (value p) y c
   adder-difference y c t e =
-      out-eq refl refl
+      same-answer k refl refl
       (tops ∙ ap (λ (z : Bool). overflowOf (topOf k (value p)) z (topOf k (value s))) (top-complement k (value q) y e)
       ∙ turned-overflow (topOf k (value p)) (topOf k y) (topOf k (value s)))
       ∙ difference-is k (value p) y (value s) c (xor d true) (value-below p (suc k) lp) (omega arith) (value-below s (suc k) ls)

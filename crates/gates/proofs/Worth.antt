@@ -1,7 +1,7 @@
 -- What rows of bits are worth, at every width: each law by one induction over the row.
 use Prim.Native.Nat.{ℕ, zero, suc, _+_, _-_, _*_, _/_, _%_, _^_, _≤_, _<_}
 use mathlib.Core.Path.{_≡_, refl, sym, ap, _∙_, subst}
-use mathlib.Core.Bool.{Bool, true, false, xor}
+use mathlib.Core.Bool.{Bool, true, false, not, xor}
 use mathlib.Core.List.{List, [], _∷_, _++_}
 use native.Mathlib.Omega.{arith}
 use native.Mathlib.Nat.{suc-inj, pow-suc, mul-comm, mul-assoc, le-of-eq, le-trans, sub-le, lt-of-lt-of-le}
@@ -9,10 +9,11 @@ use lib.ListN.{length, drop, getD, length-drop, drop-of-length-le}
 use lib.Seq.{drop-cons}
 use lib.Pow.{pow-mono}
 use lib.Dec.{eqb}
+use borrow.Author.Tests.{ne-eqb}
 use Rattle.arithmetic.specs.Words.{asNumber, topOf}
 use Rattle.arithmetic.proofs.Bits.{three, bit-le, bit-digit}
 use Rattle.arithmetic.proofs.Integers.{same-leb}
-use Rattle.gates.specs.Gates.{value, bitsOf, fullSum, fullCarry, rippleSum, rippleCarry}
+use Rattle.gates.specs.Gates.{value, bitsOf, fullSum, fullCarry, rippleSum, rippleCarry, anyOf}
 use Rattle.gates.specs.Theorems.{RippleAdds}
 
 -- one more place doubles what a bit is worth
@@ -62,6 +63,17 @@ value-low [] = refl
 value-low (true ∷ l) = ap (λ (n : ℕ). eqb n 1) (let h : (1 + 2 * value l) % 2 ≡ 1 = omega arith in h)
 value-low (false ∷ l) = ap (λ (n : ℕ). eqb n 1) (let h : (0 + 2 * value l) % 2 ≡ 0 = omega arith in h)
 
+-- a row is worth nothing where no bit of it is 1
+pub value-none : (l : List Bool) → not (anyOf l) ≡ eqb (value l) 0
+unfolding value anyOf
+value-none [] = refl
+value-none (true ∷ l) = sym (ne-eqb (1 + 2 * value l) 0 (λ e. omega arith))
+value-none (false ∷ l) = value-none l ∙ doubled (value l)
+  where
+    doubled : (n : ℕ) → eqb n 0 ≡ eqb (0 + 2 * n) 0
+    doubled zero = refl
+    doubled (suc n) = ne-eqb (suc n) 0 (λ e. omega arith) ∙ sym (ne-eqb (0 + 2 * suc n) 0 (λ e. omega arith))
+
 -- ---- words to bits and back
 
 pub value-bits : (n x : ℕ) → x < 2 ^ n → value (bitsOf n x) ≡ x
@@ -77,19 +89,21 @@ value-snoc (b ∷ l) t = omega (arith, value-snoc l t, double (asNumber t) (leng
 
 -- ---- a row read from the top down
 
-pub value-end : (l : List Bool) (n : ℕ) → length l ≡ n → value (drop n l) ≡ 0
-unfolding value
-value-end l n e = ap value (drop-of-length-le l (le-of-eq e))
+pub row-end : (l : List Bool) → drop (length l) l ≡ []
+row-end l = drop-of-length-le l (le-of-eq refl)
+
+pub row-drop : (l : List Bool) (i : ℕ) → 0 < i → i ≤ length l → drop (i - 1) l ≡ getD l (i - 1) false ∷ drop i l
+row-drop l zero h g = absurd (let k : 0 < 0 = h in omega arith)
+row-drop l (suc i) h g = ap (λ (n : ℕ). drop n l) back ∙ drop-cons l i false g ∙ ap (λ (n : ℕ). getD l n false ∷ drop (suc i) l) (sym back)
+  where
+    back : suc i - 1 ≡ i
+    back = omega arith
 
 -- one more bit below those that were read; the whole stays within the width
 pub value-drop : (w : ℕ) (l : List Bool) (i : ℕ) → length l ≤ w → 0 < i → i ≤ length l
     → (value (drop (i - 1) l) ≡ asNumber (getD l (i - 1) false) + 2 * value (drop i l)) × (value (drop (i - 1) l) < 2 ^ w)
 unfolding value
-value-drop w l zero n h g = absurd (let k : 0 < 0 = h in omega arith)
-value-drop w l (suc i) n h g = (
-  ap (λ (n : ℕ). value (drop n l)) back ∙ ap value (drop-cons l i false g) ∙ ap (λ (n : ℕ). asNumber (getD l n false) + 2 * value (drop (suc i) l)) (sym back),
-  lt-of-lt-of-le (value-lt (drop (suc i - 1) l)) (pow-mono (subst (λ (m : ℕ). m ≤ w) (sym (length-drop (suc i - 1) l)) (le-trans (sub-le (length l) (suc i - 1)) n))),
+value-drop w l i n h g = (
+  ap value (row-drop l i h g),
+  lt-of-lt-of-le (value-lt (drop (i - 1) l)) (pow-mono (subst (λ (m : ℕ). m ≤ w) (sym (length-drop (i - 1) l)) (le-trans (sub-le (length l) (i - 1)) n))),
 )
-  where
-    back : suc i - 1 ≡ i
-    back = omega arith

@@ -1,7 +1,7 @@
 -- The arithmetic unit in gates of one and two inputs on single bits, with the ripple adder. Document 01, "Clocks", its last paragraph.
 -- Rows of bits stand lowest bit first and may have any width. The gates are `not`, `_&&_`, `_||_` and `xor`.
 use Prim.Native.Nat.{ℕ, zero, suc, _+_, _*_, _/_, _%_}
-use mathlib.Core.Bool.{Bool, not, _&&_, _||_, xor}
+use mathlib.Core.Bool.{Bool, false, not, _&&_, _||_, xor}
 use mathlib.Core.List.{List, [], _∷_}
 use lib.ListN.{getD}
 use lib.Dec.{eqb}
@@ -97,8 +97,13 @@ linesOf o0 o1 o2 o3 c sign =
       carry = not o3 && xor (stepLine o0 o1 || ((o1 && not o0) && c)) o2;
     }
 
--- ---- the flags
+-- ---- the flags; N is the sum's top bit
 
 -- carry out, or borrow: a difference is below zero where its sum with the complement does not carry; in a shift a's lowest bit
 abbrev pub carryOut : Lines → Bool → Bool → Bool
 carryOut l low c = (l .shift && low) || xor c (l .turn)
+
+-- whether a bit of a row is 1, by gates in a row; Z is its complement
+unfoldable pub anyOf : List Bool → Bool
+anyOf [] = false
+anyOf (b ∷ m) = b || anyOf m

@@ -2,14 +2,14 @@
 -- gates on single bits, with a ripple adder shown right for all widths together."
 use Prim.Native.Nat.{ℕ, suc, _+_, _*_, _^_}
 use mathlib.Core.Path.{_≡_}
-use mathlib.Core.Bool.{Bool, false}
+use mathlib.Core.Bool.{Bool, false, not}
 use mathlib.Core.List.{List}
 use lib.ListN.{length, getD}
 use Rattle.arithmetic.specs.declared.AluOut.{AluOut}
 use Rattle.arithmetic.specs.Words.{asNumber, nibble, overflowOf}
 use Rattle.arithmetic.specs.Alu.{aluAt}
 use Rattle.gates.specs.declared.control.Lines.{Lines}
-use Rattle.gates.specs.Gates.{value, rippleSum, rippleCarry, firstRow, secondRow, linesOf, carryOut}
+use Rattle.gates.specs.Gates.{value, rippleSum, rippleCarry, firstRow, secondRow, linesOf, carryOut, anyOf}
 
 -- ---- the adder ("a ripple adder shown right for all widths together")
 
@@ -31,6 +31,8 @@ outOf k l a b s d =
       result = value s;
       carry = carryOut l (getD a 0 false) d;
       overflow = overflowOf (getD (firstRow l a b) k false) (getD (secondRow l a) k false) (getD s k false);
+      negative = getD s k false;
+      zero = not (anyOf s);
     }
 
 -- for each operation, given by its four lines, it answers as the definition does, at every width of k + 1 bits and around any adder that

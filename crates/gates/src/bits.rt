@@ -1,9 +1,9 @@
-// Words and single bits.
+// Words and single bits; rows of bits read from the top down.
 ghost use mathlib.Core.Path.{_≡_};
 ghost use mathlib.Core.Bool.{false};
 ghost use Prim.Native.Nat.{_+_, _<_, _≤_};
 ghost use lib.ListN.{length, getD};
-ghost use Rattle.gates.specs.Gates.{value, bitsOf};
+ghost use Rattle.gates.specs.Gates.{value, bitsOf, anyOf};
 
 // The bit of a word at a place, the lowest at 0.
 pub fn bit(word: u32, place: usize) -> bool
@@ -23,6 +23,19 @@ pub fn above(word: u32, place: usize, top: bool) -> bool
     } else {
         top
     }
+}
+
+// Whether a bit of a row is 1: each gate takes one bit more.
+pub fn any(bits: &[bool]) -> bool
+    ensures { λ r. ⌜ r ≡ anyOf (now (bits .entry)) ⌝ }
+{
+    let mut r = false;
+    let mut i = bits.len();
+    while 0 < i {
+        i -= 1;
+        r = bits[i] | r;
+    }
+    r
 }
 
 // The word of a row of at most 32 bits.

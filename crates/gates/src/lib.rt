@@ -7,14 +7,15 @@ mod rows;
 
 use adder::ripple;
 use arithmetic::AluOut;
+use bits::any;
 use bits::bit;
 use bits::from_bits;
 use control::control;
-use rows::rows;
+use rows::adder_rows;
 ghost use mathlib.Core.Path.{_≡_};
 ghost use Rattle.arithmetic.specs.Alu.{aluOf};
 
-// The arithmetic unit of gates: result, carry and overflow by the low four bits of the operation.
+// The arithmetic unit of gates: the result and its flags by the low four bits of the operation.
 pub fn gate_unit(operation: u8, a: u32, b: u32, carry: bool) -> AluOut
     ensures { λ r. ⌜ r ≡ aluOf operation a b carry ⌝ }
 {
@@ -25,7 +26,7 @@ pub fn gate_unit(operation: u8, a: u32, b: u32, carry: bool) -> AluOut
     let l = control(o0, o1, o2, o3, carry, bit(a, 31));
     let mut first = [false; 32];
     let mut second = [false; 32];
-    rows(l, a, b, &mut first, &mut second);
+    adder_rows(l, a, b, &mut first, &mut second);
     let mut sum = [false; 32];
     let c = ripple(&first, &second, l.carry, &mut sum);
     let top = sum[31];
@@ -35,5 +36,7 @@ pub fn gate_unit(operation: u8, a: u32, b: u32, carry: bool) -> AluOut
         carry: (l.shift & bit(a, 0)) | (c ^ l.turn),
         // both rows have the sign that their sum has not
         overflow: (first[31] ^ top) & (second[31] ^ top),
+        negative: top,
+        zero: !any(&sum),
     }
 }

@@ -16,7 +16,7 @@ fn first_bit(l: Lines, a: bool, b: bool, up: bool) -> bool
 }
 
 // Both rows, from the bits of two words.
-pub fn rows(l: Lines, a: u32, b: u32, first: &mut [bool], second: &mut [bool])
+pub fn adder_rows(l: Lines, a: u32, b: u32, first: &mut [bool], second: &mut [bool])
     requires { ⌜ (length (now first) ≡ 32) × (length (now second) ≡ 32) ⌝ }
     ensures { λ _. ⌜ (now (first .exit) ≡ firstRow l (bitsOf 32 a) (bitsOf 32 b)) × (now (second .exit) ≡ secondRow l (bitsOf 32 a)) ⌝ }
 {

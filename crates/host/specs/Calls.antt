@@ -3,67 +3,111 @@
 -- is turned down".
 use Prim.Native.Nat.{ℕ}
 use mathlib.Core.Path.{_≡_}
-use mathlib.Core.Bool.{cond}
+use mathlib.Core.Bool.{Bool, cond}
 use mathlib.Core.List.{List}
 use lib.ListN.{length}
+use Rattle.interpreter.specs.declared.RunResult.{RunResult}
+use Rattle.interpreter.specs.declared.FileResult.{FileResult}
 use Rattle.interpreter.specs.Calls.{runReturned, runWords, fileReturned, fileWords, filePlaces}
-use Rattle.gate_machine.specs.Calls.{gateReturned, gateWords}
-use Rattle.image.specs.Calls.{writeReturned, writeBytes, readReturned, readWords}
-use Rattle.host_reading.specs.Layout.{runPlaces, imagePlaces, machineIn, machineFormed, stateIn, stateFormed}
+use Rattle.gate_machine.specs.declared.GateResult.{GateResult}
+use Rattle.gate_machine.specs.Calls.{gateNumber, gateReturned, gateWords}
+use Rattle.image.specs.declared.ReadResult.{ReadResult}
+use Rattle.image.specs.declared.WriteAnswer.{WriteAnswer}
+use Rattle.image.specs.Calls.{writeNumber, writeReturned, writeBytes, readNumber, readReturned, readWords}
+use Rattle.host_reading.specs.Layout.{runPlaces, countPlaces, machineIn, machineFormed, stateIn, stateFormed}
 use Rattle.host_words.specs.Words.{machineWords, stateWords}
-use Rattle.host_ends.specs.Codes.{Code, codeNumber, codeIf, runCode, fileCode, gateCode, readCode, writeCode, runNumbers, fileNumbers, gateNumbers, readNumbers, writeNumbers, afterCall}
+use Rattle.host_ends.specs.Codes.{codeIf, afterCall, runCode, fileCode}
+use Rattle.host_ends.specs.Codes.{runCounts, fileCounts, gateCounts, readCounts, writeCounts}
+
+-- For each call: whether what is lent has the layout's lengths, what the call within then returns, the code that it comes to, and what it
+-- leaves.
 
 -- ---- fm8502_run: a run of the interpreter
 
-abbrev pub runEnds : (memory waits machine : List ℕ) → ℕ → (result : List ℕ) → Code
-runEnds memory waits machine count result = codeIf (machineFormed (length machine) (length result) runPlaces) (runCode (runReturned memory waits (machineIn machine) count .answer))
+module _ (memory waits machine : List ℕ) (count : ℕ) (result : List ℕ) where
+  abbrev pub runFormed : Bool
+  runFormed = machineFormed (length machine) (length result) runPlaces
 
-pub record RunCall (memory waits machine : List ℕ) (count : ℕ) (result memory′ machine′ result′ : List ℕ) (code : ℕ) : Type 0 where
-  pub returned : code ≡ codeNumber (runEnds memory waits machine count result)
-  pub words : memory′ ≡ cond (machineFormed (length machine) (length result) runPlaces) (runWords memory waits (machineIn machine) count) memory
-  pub registers : machine′ ≡ afterCall (runEnds memory waits machine count result) (machineWords (runReturned memory waits (machineIn machine) count .machine)) machine
-  pub numbers : result′ ≡ afterCall (runEnds memory waits machine count result) (runNumbers (runReturned memory waits (machineIn machine) count)) result
+  abbrev pub runWithin : RunResult
+  runWithin = runReturned memory waits (machineIn machine) count
+
+  abbrev pub runComesTo : ℕ
+  runComesTo = codeIf runFormed (runCode (runWithin .answer))
+
+  pub record RunCall (memory′ machine′ result′ : List ℕ) (number : ℕ) : Type 0 where
+    pub returned : number ≡ runComesTo
+    pub words : memory′ ≡ cond runFormed (runWords memory waits (machineIn machine) count) memory
+    pub parts : machine′ ≡ afterCall runComesTo (machineWords (runWithin .machine)) machine
+    pub numbers : result′ ≡ afterCall runComesTo (runCounts runWithin) result
 
 -- ---- fm8502_file_run: a file run
 
-abbrev pub fileEnds : (memory journal machine : List ℕ) → ℕ → (result : List ℕ) → Code
-fileEnds memory journal machine count result = codeIf (machineFormed (length machine) (length result) runPlaces) (fileCode (fileReturned memory journal (machineIn machine) count .answer))
+module _ (memory journal machine : List ℕ) (count : ℕ) (result : List ℕ) where
+  abbrev pub fileFormed : Bool
+  fileFormed = machineFormed (length machine) (length result) runPlaces
 
-pub record FileCall (memory journal machine : List ℕ) (count : ℕ) (result memory′ journal′ machine′ result′ : List ℕ) (code : ℕ) : Type 0 where
-  pub returned : code ≡ codeNumber (fileEnds memory journal machine count result)
-  pub words : memory′ ≡ cond (machineFormed (length machine) (length result) runPlaces) (fileWords memory journal (machineIn machine) count) memory
-  pub places : journal′ ≡ cond (machineFormed (length machine) (length result) runPlaces) (filePlaces memory journal (machineIn machine) count) journal
-  pub registers : machine′ ≡ afterCall (fileEnds memory journal machine count result) (machineWords (fileReturned memory journal (machineIn machine) count .machine)) machine
-  pub numbers : result′ ≡ afterCall (fileEnds memory journal machine count result) (fileNumbers (fileReturned memory journal (machineIn machine) count)) result
+  abbrev pub fileWithin : FileResult
+  fileWithin = fileReturned memory journal (machineIn machine) count
+
+  abbrev pub fileComesTo : ℕ
+  fileComesTo = codeIf fileFormed (fileCode (fileWithin .answer))
+
+  pub record FileCall (memory′ journal′ machine′ result′ : List ℕ) (number : ℕ) : Type 0 where
+    pub returned : number ≡ fileComesTo
+    pub words : memory′ ≡ cond fileFormed (fileWords memory journal (machineIn machine) count) memory
+    pub places : journal′ ≡ cond fileFormed (filePlaces memory journal (machineIn machine) count) journal
+    pub parts : machine′ ≡ afterCall fileComesTo (machineWords (fileWithin .machine)) machine
+    pub numbers : result′ ≡ afterCall fileComesTo (fileCounts fileWithin) result
 
 -- ---- fm8502_gate_run: a gate run; fm8502_clock: one clock
 
-abbrev pub gateEnds : (memory waits state : List ℕ) → ℕ → (result : List ℕ) → Code
-gateEnds memory waits state clocks result = codeIf (stateFormed (length state) (length result)) (gateCode (gateReturned memory waits (stateIn state) clocks .answer))
+module _ (memory waits state : List ℕ) (clocks : ℕ) (result : List ℕ) where
+  abbrev pub gateFormed : Bool
+  gateFormed = stateFormed (length state) (length result)
 
-pub record GateCall (memory waits state : List ℕ) (clocks : ℕ) (result memory′ state′ result′ : List ℕ) (code : ℕ) : Type 0 where
-  pub returned : code ≡ codeNumber (gateEnds memory waits state clocks result)
-  pub words : memory′ ≡ cond (stateFormed (length state) (length result)) (gateWords memory waits (stateIn state) clocks) memory
-  pub registers : state′ ≡ afterCall (gateEnds memory waits state clocks result) (stateWords (gateReturned memory waits (stateIn state) clocks .state)) state
-  pub numbers : result′ ≡ afterCall (gateEnds memory waits state clocks result) (gateNumbers (gateReturned memory waits (stateIn state) clocks)) result
+  abbrev pub gateWithin : GateResult
+  gateWithin = gateReturned memory waits (stateIn state) clocks
+
+  abbrev pub gateComesTo : ℕ
+  gateComesTo = codeIf gateFormed (gateNumber (gateWithin .answer))
+
+  pub record GateCall (memory′ state′ result′ : List ℕ) (number : ℕ) : Type 0 where
+    pub returned : number ≡ gateComesTo
+    pub words : memory′ ≡ cond gateFormed (gateWords memory waits (stateIn state) clocks) memory
+    pub parts : state′ ≡ afterCall gateComesTo (stateWords (gateWithin .state)) state
+    pub numbers : result′ ≡ afterCall gateComesTo (gateCounts gateWithin) result
 
 -- ---- fm8502_image_read: the image reader
 
-abbrev pub readEnds : (bytes memory machine result : List ℕ) → Code
-readEnds bytes memory machine result = codeIf (machineFormed (length machine) (length result) imagePlaces) (readCode (readReturned bytes memory .answer))
+module _ (bytes memory machine result : List ℕ) where
+  abbrev pub readFormed : Bool
+  readFormed = machineFormed (length machine) (length result) countPlaces
 
-pub record ReadCall (bytes memory machine result memory′ machine′ result′ : List ℕ) (code : ℕ) : Type 0 where
-  pub returned : code ≡ codeNumber (readEnds bytes memory machine result)
-  pub words : memory′ ≡ cond (machineFormed (length machine) (length result) imagePlaces) (readWords bytes memory) memory
-  pub registers : machine′ ≡ afterCall (readEnds bytes memory machine result) (machineWords (readReturned bytes memory .machine)) machine
-  pub numbers : result′ ≡ afterCall (readEnds bytes memory machine result) (readNumbers (readReturned bytes memory)) result
+  abbrev pub readWithin : ReadResult
+  readWithin = readReturned bytes memory
+
+  abbrev pub readComesTo : ℕ
+  readComesTo = codeIf readFormed (readNumber (readWithin .answer))
+
+  pub record ReadCall (memory′ machine′ result′ : List ℕ) (number : ℕ) : Type 0 where
+    pub returned : number ≡ readComesTo
+    pub words : memory′ ≡ cond readFormed (readWords bytes memory) memory
+    pub parts : machine′ ≡ afterCall readComesTo (machineWords (readWithin .machine)) machine
+    pub numbers : result′ ≡ afterCall readComesTo (readCounts readWithin) result
 
 -- ---- fm8502_image_write: the image writer
 
-abbrev pub writeEnds : (memory machine out result : List ℕ) → Code
-writeEnds memory machine out result = codeIf (machineFormed (length machine) (length result) imagePlaces) (writeCode (writeReturned memory (machineIn machine) out))
+module _ (memory machine out result : List ℕ) where
+  abbrev pub writeFormed : Bool
+  writeFormed = machineFormed (length machine) (length result) countPlaces
 
-pub record WriteCall (memory machine out result out′ result′ : List ℕ) (code : ℕ) : Type 0 where
-  pub returned : code ≡ codeNumber (writeEnds memory machine out result)
-  pub bytes : out′ ≡ cond (machineFormed (length machine) (length result) imagePlaces) (writeBytes memory (machineIn machine) out) out
-  pub numbers : result′ ≡ afterCall (writeEnds memory machine out result) (writeNumbers (writeReturned memory (machineIn machine) out)) result
+  abbrev pub writeWithin : WriteAnswer
+  writeWithin = writeReturned memory (machineIn machine) out
+
+  abbrev pub writeComesTo : ℕ
+  writeComesTo = codeIf writeFormed (writeNumber writeWithin)
+
+  pub record WriteCall (out′ result′ : List ℕ) (number : ℕ) : Type 0 where
+    pub returned : number ≡ writeComesTo
+    pub bytes : out′ ≡ cond writeFormed (writeBytes memory (machineIn machine) out) out
+    pub numbers : result′ ≡ afterCall writeComesTo (writeCounts writeWithin) result

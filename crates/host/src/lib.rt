@@ -6,7 +6,7 @@ use host_ends::end_gate_run;
 use host_ends::end_read;
 use host_ends::end_run;
 use host_ends::end_write;
-use host_reading::IMAGE_PLACES;
+use host_reading::COUNT_PLACES;
 use host_reading::RUN_PLACES;
 use host_reading::machine_lent;
 use host_reading::state_lent;
@@ -23,8 +23,8 @@ pub extern "C" fn fm8502_run(
 ) -> u32
     ensures { λ r. ⌜ RunCall (now (memory .entry)) (now (waits .entry)) (now (machine .entry)) count (now (result .entry)) (now (memory .exit)) (now (machine .exit)) (now (result .exit)) r ⌝ }
 {
-    let lent = machine_lent(&machine[..], result.len(), RUN_PLACES);
-    if !lent.fits {
+    let lent = machine_lent(&*machine, result.len(), RUN_PLACES);
+    if !lent.formed {
         return MISFIT;
     }
     let r = interpreter::run(&mut *memory, waits, lent.machine, count);
@@ -42,8 +42,8 @@ pub extern "C" fn fm8502_file_run(
 ) -> u32
     ensures { λ r. ⌜ FileCall (now (memory .entry)) (now (journal .entry)) (now (machine .entry)) count (now (result .entry)) (now (memory .exit)) (now (journal .exit)) (now (machine .exit)) (now (result .exit)) r ⌝ }
 {
-    let lent = machine_lent(&machine[..], result.len(), RUN_PLACES);
-    if !lent.fits {
+    let lent = machine_lent(&*machine, result.len(), RUN_PLACES);
+    if !lent.formed {
         return MISFIT;
     }
     let r = interpreter::file_run(&mut *memory, &mut *journal, lent.machine, count);
@@ -61,8 +61,8 @@ pub extern "C" fn fm8502_gate_run(
 ) -> u32
     ensures { λ r. ⌜ GateCall (now (memory .entry)) (now (waits .entry)) (now (state .entry)) clocks (now (result .entry)) (now (memory .exit)) (now (state .exit)) (now (result .exit)) r ⌝ }
 {
-    let lent = state_lent(&state[..], result.len());
-    if !lent.fits {
+    let lent = state_lent(&*state, result.len());
+    if !lent.formed {
         return MISFIT;
     }
     let r = gate_machine::run(&mut *memory, waits, lent.state, clocks);
@@ -92,8 +92,8 @@ pub extern "C" fn fm8502_image_read(
 ) -> u32
     ensures { λ r. ⌜ ReadCall (now (bytes .entry)) (now (memory .entry)) (now (machine .entry)) (now (result .entry)) (now (memory .exit)) (now (machine .exit)) (now (result .exit)) r ⌝ }
 {
-    let lent = machine_lent(&machine[..], result.len(), IMAGE_PLACES);
-    if !lent.fits {
+    let lent = machine_lent(&*machine, result.len(), COUNT_PLACES);
+    if !lent.formed {
         return MISFIT;
     }
     let r = image_reader::read(bytes, &mut *memory);
@@ -110,8 +110,8 @@ pub extern "C" fn fm8502_image_write(
 ) -> u32
     ensures { λ r. ⌜ WriteCall (now (memory .entry)) (now (machine .entry)) (now (out .entry)) (now (result .entry)) (now (out .exit)) (now (result .exit)) r ⌝ }
 {
-    let lent = machine_lent(machine, result.len(), IMAGE_PLACES);
-    if !lent.fits {
+    let lent = machine_lent(machine, result.len(), COUNT_PLACES);
+    if !lent.formed {
         return MISFIT;
     }
     let r = image_writer::write(memory, lent.machine, &mut *out);

@@ -5,10 +5,11 @@ use mathlib.Core.Bool.{Bool, true}
 use mathlib.Core.List.{List}
 use lib.Dec.{eqb}
 use lib.ListN.{length}
-use Rattle.host_words.specs.Words.{laid}
-use Rattle.host_ends.specs.Codes.{Code, codeIf, Ends}
+use Rattle.host_ends.specs.Codes.{codeIf, afterCall, Ends}
 
-pub ends-fitting : (fits : Bool) → fits ≡ true → (size due : ℕ) (code : Code) (words places state result state′ result′ : List ℕ) (number : ℕ) → (eqb (length state) size ≡ true) × (eqb (length result) due ≡ true)
-    → Ends code (laid size words state) (laid due places result) state result state′ result′ number → Ends (codeIf fits code) words places state result state′ result′ number
-ends-fitting fits f size due code words places state result state′ result′ number h g =
-    record { returned = rw f (g .returned); registers = rw f (rw (h .0) at (g .registers)); numbers = rw f (rw (h .1) at (g .numbers)) }
+module _ (formed : Bool) (f : formed ≡ true) (size due code : ℕ) (words counts lent result lent′ result′ : List ℕ) (number : ℕ) where
+  pub ends-fitting : (eqb (length lent) size ≡ true) × (eqb (length result) due ≡ true)
+      → Ends code size words due counts lent result lent′ result′ number
+      → (number ≡ codeIf formed code) × (lent′ ≡ afterCall (codeIf formed code) words lent)
+      × (result′ ≡ afterCall (codeIf formed code) counts result)
+  ends-fitting h g = (rw f (g .returned), rw f (rw (h .0) at (g .parts)), rw f (rw (h .1) at (g .numbers)))

@@ -1,112 +1,102 @@
 -- The code that each call returns, and what it leaves of what it was lent. Document 01, "Why a call is turned down", numbers the refusals.
 use Prim.Native.Nat.{ℕ}
 use mathlib.Core.Path.{_≡_}
-use mathlib.Core.Bool.{Bool, cond}
+use mathlib.Core.Bool.{Bool, cond, _||_}
 use mathlib.Core.List.{List, [], _∷_}
-use Rattle.model.specs.declared.Refusal.{Refusal}
+use lib.Dec.{eqb}
 use Rattle.model.specs.Refusals.{refusalNumber}
 use Rattle.interpreter.specs.declared.RunAnswer.{RunAnswer}
 use Rattle.interpreter.specs.declared.RunResult.{RunResult}
 use Rattle.interpreter.specs.declared.FileAnswer.{FileAnswer}
 use Rattle.interpreter.specs.declared.FileResult.{FileResult}
-use Rattle.gate_machine.specs.declared.GateAnswer.{GateAnswer}
 use Rattle.gate_machine.specs.declared.GateResult.{GateResult}
-use Rattle.image.specs.declared.ReadAnswer.{ReadAnswer}
+use Rattle.gate_machine.specs.Calls.{gateNumber}
 use Rattle.image.specs.declared.ReadResult.{ReadResult}
 use Rattle.image.specs.declared.WriteAnswer.{WriteAnswer}
-use Rattle.image.specs.Calls.{readCount, writeSize}
-use Rattle.host_reading.specs.Layout.{runPlaces, gatePlaces, imagePlaces, machineSize, stateSize}
+use Rattle.image.specs.Calls.{writeNumber, writeSize, readNumber, readCount}
+use Rattle.host_reading.specs.Layout.{runPlaces, countPlaces, machineSize, stateSize}
 use Rattle.host_words.specs.Words.{machineWords, stateWords, laid}
 
--- carried out; carried out and ended "outside" or "undone"; turned down; what is lent has not the layout's lengths
-pub data Code : Type 0 where
-  done stopped misfit : Code
-  refused : Refusal → Code
+-- ---- the codes: a refusal has document 01's number, 1 to 15; of a gate run, a read and a write the answer's number is the code
 
--- a refusal has document 01's number, 1 to 15
-abbrev pub codeNumber : Code → ℕ
-codeNumber done = 0
-codeNumber stopped = 100
-codeNumber misfit = 200
-codeNumber (refused why) = refusalNumber why
+-- carried out
+abbrev pub done : ℕ
+done = 0
 
-abbrev pub runCode : RunAnswer → Code
+-- carried out and ended "outside" or "undone"
+abbrev pub stopped : ℕ
+stopped = 100
+
+-- what is lent has not the layout's lengths
+abbrev pub misfit : ℕ
+misfit = 200
+
+abbrev pub runCode : RunAnswer → ℕ
 runCode RunAnswer.Finished = done
 runCode RunAnswer.Outside = stopped
-runCode (RunAnswer.Refused why) = refused why
+runCode (RunAnswer.Refused why) = refusalNumber why
 
-abbrev pub fileCode : FileAnswer → Code
+abbrev pub fileCode : FileAnswer → ℕ
 fileCode FileAnswer.Finished = done
 fileCode FileAnswer.Undone = stopped
-fileCode (FileAnswer.Refused why) = refused why
-
-abbrev pub gateCode : GateAnswer → Code
-gateCode GateAnswer.Ran = done
-gateCode (GateAnswer.Refused why) = refused why
-
-abbrev pub readCode : ReadAnswer → Code
-readCode (ReadAnswer.Loaded words) = done
-readCode (ReadAnswer.Refused why) = refused why
-
-abbrev pub writeCode : WriteAnswer → Code
-writeCode (WriteAnswer.Written size) = done
-writeCode (WriteAnswer.Refused why) = refused why
+fileCode (FileAnswer.Refused why) = refusalNumber why
 
 -- the code of a call that goes on only where what is lent has the layout's lengths
-abbrev pub codeIf : Bool → Code → Code
+abbrev pub codeIf : Bool → ℕ → ℕ
 codeIf fits code = cond fits code misfit
 
+abbrev pub carriedOut : (code : ℕ) → Bool
+carriedOut code = eqb code done || eqb code stopped
+
 -- a lent slice after the call: what a call that was carried out puts there, or as it was
-abbrev pub afterCall : Code → List ℕ → List ℕ → List ℕ
-afterCall done put former = put
-afterCall stopped put former = put
-afterCall misfit put former = former
-afterCall (refused why) put former = former
+abbrev pub afterCall : (code : ℕ) → (put former : List ℕ) → List ℕ
+afterCall code put former = cond (carriedOut code) put former
 
 -- ---- the numbers for the result's places
 
 -- the instructions that ran, the clock total
-abbrev pub runNumbers : RunResult → List ℕ
-runNumbers r = r .ran ∷ r .clocks ∷ []
+abbrev pub runCounts : RunResult → List ℕ
+runCounts r = r .ran ∷ r .clocks ∷ []
 
 -- the instructions that ran, the journal's pairs
-abbrev pub fileNumbers : FileResult → List ℕ
-fileNumbers r = r .ran ∷ r .pairs ∷ []
+abbrev pub fileCounts : FileResult → List ℕ
+fileCounts r = r .ran ∷ r .pairs ∷ []
 
 -- the instructions finished
-abbrev pub gateNumbers : GateResult → List ℕ
-gateNumbers r = r .finished ∷ []
+abbrev pub gateCounts : GateResult → List ℕ
+gateCounts r = r .finished ∷ []
 
 -- the image's words
-abbrev pub readNumbers : ReadResult → List ℕ
-readNumbers r = readCount (r .answer) ∷ []
+abbrev pub readCounts : ReadResult → List ℕ
+readCounts r = readCount (r .answer) ∷ []
 
 -- the image's bytes
-abbrev pub writeNumbers : WriteAnswer → List ℕ
-writeNumbers r = writeSize r ∷ []
+abbrev pub writeCounts : WriteAnswer → List ℕ
+writeCounts r = writeSize r ∷ []
 
 -- ---- the ends
 
--- a call's end: the number that it returns, a machine's or a state's words, the result's places
-pub record Ends (code : Code) (words places state result state′ result′ : List ℕ) (number : ℕ) : Type 0 where
-  pub returned : number ≡ codeNumber code
-  pub registers : state′ ≡ afterCall code words state
-  pub numbers : result′ ≡ afterCall code places result
+-- A call's end: the code that it returns, and what it leaves of a lent machine or state and of a lent result. A machine's parts are its
+-- registers and flags, a state's its registers, flags, row and latches.
+module _ (code size : ℕ) (words : List ℕ) (due : ℕ) (counts : List ℕ) where
+  pub record Ends (lent result lent′ result′ : List ℕ) (number : ℕ) : Type 0 where
+    pub returned : number ≡ code
+    pub parts : lent′ ≡ afterCall code (laid size words lent) lent
+    pub numbers : result′ ≡ afterCall code (laid due counts result) result
 
--- the ends of the calls that leave a machine or a state: what is lent at entry and at exit, the number
 abbrev pub RunEnds : RunResult → (machine result machine′ result′ : List ℕ) → ℕ → Type 0
-RunEnds r machine result = Ends (runCode (r .answer)) (laid machineSize (machineWords (r .machine)) machine) (laid runPlaces (runNumbers r) result) machine result
+RunEnds r = Ends (runCode (r .answer)) machineSize (machineWords (r .machine)) runPlaces (runCounts r)
 
 abbrev pub FileEnds : FileResult → (machine result machine′ result′ : List ℕ) → ℕ → Type 0
-FileEnds r machine result = Ends (fileCode (r .answer)) (laid machineSize (machineWords (r .machine)) machine) (laid runPlaces (fileNumbers r) result) machine result
+FileEnds r = Ends (fileCode (r .answer)) machineSize (machineWords (r .machine)) runPlaces (fileCounts r)
 
 abbrev pub GateEnds : GateResult → (state result state′ result′ : List ℕ) → ℕ → Type 0
-GateEnds r state result = Ends (gateCode (r .answer)) (laid stateSize (stateWords (r .state)) state) (laid gatePlaces (gateNumbers r) result) state result
+GateEnds r = Ends (gateNumber (r .answer)) stateSize (stateWords (r .state)) countPlaces (gateCounts r)
 
 abbrev pub ReadEnds : ReadResult → (machine result machine′ result′ : List ℕ) → ℕ → Type 0
-ReadEnds r machine result = Ends (readCode (r .answer)) (laid machineSize (machineWords (r .machine)) machine) (laid imagePlaces (readNumbers r) result) machine result
+ReadEnds r = Ends (readNumber (r .answer)) machineSize (machineWords (r .machine)) countPlaces (readCounts r)
 
--- a write's end: the number that it returns, the result's place
+-- a write's end: the code that it returns, the result's place
 pub record WriteEnds (r : WriteAnswer) (result result′ : List ℕ) (number : ℕ) : Type 0 where
-  pub returned : number ≡ codeNumber (writeCode r)
-  pub numbers : result′ ≡ afterCall (writeCode r) (laid imagePlaces (writeNumbers r) result) result
+  pub returned : number ≡ writeNumber r
+  pub numbers : result′ ≡ afterCall (writeNumber r) (laid countPlaces (writeCounts r) result) result

@@ -5,6 +5,8 @@ mod places;
 use codes::DONE;
 pub use codes::MISFIT;
 use codes::STOPPED;
+use codes::file_code;
+use codes::run_code;
 use gate_machine::GateAnswer;
 use gate_machine::GateResult;
 use host_words::put_machine;
@@ -12,74 +14,73 @@ use host_words::put_state;
 use image::ReadAnswer;
 use image::ReadResult;
 use image::WriteAnswer;
-use interpreter::FileAnswer;
 use interpreter::FileResult;
-use interpreter::RunAnswer;
 use interpreter::RunResult;
 use model::Machine;
 use places::put_one;
 use places::put_two;
 use refusals::refusal_number;
-ghost use mathlib.Core.Path.{_≡_};
 ghost use mathlib.Core.List.{[], _∷_};
 ghost use Rattle.host_reading.specs.Layout.{runPlaces, machineSize};
-ghost use Rattle.host_words.specs.Words.{machineWords, laid};
-ghost use Rattle.host_ends.specs.Codes.{RunEnds, FileEnds, GateEnds, ReadEnds, WriteEnds};
+ghost use Rattle.host_words.specs.Words.{machineWords};
+ghost use Rattle.host_ends.specs.Codes.{Ends, RunEnds, FileEnds, GateEnds, ReadEnds, WriteEnds};
 
-// A machine, and the instructions that ran with a run's other number.
-fn put_run(m: Machine, ran: u32, other: u64, machine: &mut [u32], result: &mut [u64])
-    ensures { λ _. ⌜ (now (machine .exit) ≡ laid machineSize (machineWords m) (now (machine .entry))) × (now (result .exit) ≡ laid runPlaces (ran ∷ other ∷ []) (now (result .entry))) ⌝ }
+// The end of a call that counts instructions: its machine, the instructions that ran, and its other number.
+fn end_counted(
+    code: u32,
+    m: Machine,
+    ran: u32,
+    other: u64,
+    machine: &mut [u32],
+    result: &mut [u64],
+) -> u32
+    ensures { λ r. ⌜ Ends code machineSize (machineWords m) runPlaces (ran ∷ other ∷ []) (now (machine .entry)) (now (result .entry)) (now (machine .exit)) (now (result .exit)) r ⌝ }
 {
-    put_machine(m, &mut *machine);
-    put_two(ran as u64, other, &mut *result);
+    if (code == DONE) | (code == STOPPED) {
+        put_machine(m, &mut *machine);
+        put_two(ran as u64, other, &mut *result);
+    }
+    code
 }
 
 pub fn end_run(r: RunResult, machine: &mut [u32], result: &mut [u64]) -> u32
     ensures { λ code. ⌜ RunEnds r (now (machine .entry)) (now (result .entry)) (now (machine .exit)) (now (result .exit)) code ⌝ }
 {
     let answer = r.answer;
-    let after = r.machine;
-    match answer {
-        RunAnswer::Refused(why) => refusal_number(why),
-        RunAnswer::Finished => {
-            put_run(after, r.ran, r.clocks, &mut *machine, &mut *result);
-            DONE
-        }
-        RunAnswer::Outside => {
-            put_run(after, r.ran, r.clocks, &mut *machine, &mut *result);
-            STOPPED
-        }
-    }
+    let code = run_code(answer);
+    end_counted(
+        code,
+        r.machine,
+        r.ran,
+        r.clocks,
+        &mut *machine,
+        &mut *result,
+    )
 }
 
 pub fn end_file_run(r: FileResult, machine: &mut [u32], result: &mut [u64]) -> u32
     ensures { λ code. ⌜ FileEnds r (now (machine .entry)) (now (result .entry)) (now (machine .exit)) (now (result .exit)) code ⌝ }
 {
     let answer = r.answer;
-    let after = r.machine;
-    let pairs = r.pairs as u64;
-    match answer {
-        FileAnswer::Refused(why) => refusal_number(why),
-        FileAnswer::Finished => {
-            put_run(after, r.ran, pairs, &mut *machine, &mut *result);
-            DONE
-        }
-        FileAnswer::Undone => {
-            put_run(after, r.ran, pairs, &mut *machine, &mut *result);
-            STOPPED
-        }
-    }
+    let code = file_code(answer);
+    end_counted(
+        code,
+        r.machine,
+        r.ran,
+        r.pairs as u64,
+        &mut *machine,
+        &mut *result,
+    )
 }
 
 pub fn end_gate_run(r: GateResult, state: &mut [u32], result: &mut [u64]) -> u32
     ensures { λ code. ⌜ GateEnds r (now (state .entry)) (now (result .entry)) (now (state .exit)) (now (result .exit)) code ⌝ }
 {
     let answer = r.answer;
-    let after = r.state;
     match answer {
         GateAnswer::Refused(why) => refusal_number(why),
         GateAnswer::Ran => {
-            put_state(after, &mut *state);
+            put_state(r.state, &mut *state);
             put_one(r.finished, &mut *result);
             DONE
         }
@@ -90,11 +91,10 @@ pub fn end_read(r: ReadResult, machine: &mut [u32], result: &mut [u64]) -> u32
     ensures { λ code. ⌜ ReadEnds r (now (machine .entry)) (now (result .entry)) (now (machine .exit)) (now (result .exit)) code ⌝ }
 {
     let answer = r.answer;
-    let after = r.machine;
     match answer {
         ReadAnswer::Refused(why) => refusal_number(why),
         ReadAnswer::Loaded(words) => {
-            put_machine(after, &mut *machine);
+            put_machine(r.machine, &mut *machine);
             put_one(words as u64, &mut *result);
             DONE
         }

@@ -5,7 +5,7 @@ use mathlib.Core.Bool.{true, and-eq-true-iff}
 use native.Mathlib.Nat.{le-of-eq}
 use lib.Dec.{eqb}
 use borrow.Author.Tests.{eqb-true}
-use Rattle.host_reading.specs.Layout.{gatePlaces, machineSize, stateSize, machineFormed, stateFormed}
+use Rattle.host_reading.specs.Layout.{countPlaces, machineSize, stateSize, machineFormed, stateFormed}
 
 module _ (words places due : ℕ) (f : machineFormed words places due ≡ true) where
   pub machine-tests : (eqb words machineSize ≡ true) × (eqb places due ≡ true)
@@ -16,9 +16,9 @@ module _ (words places due : ℕ) (f : machineFormed words places due ≡ true) 
   machine-readable = le-of-eq (sym (eqb-true _ _ (machine-tests .0)))
 
 module _ (words places : ℕ) (f : stateFormed words places ≡ true) where
-  pub state-tests : (eqb words stateSize ≡ true) × (eqb places gatePlaces ≡ true)
+  pub state-tests : (eqb words stateSize ≡ true) × (eqb places countPlaces ≡ true)
   unfolding stateFormed
-  state-tests = and-eq-true-iff (eqb words stateSize) (eqb places gatePlaces) .0 f
+  state-tests = and-eq-true-iff (eqb words stateSize) (eqb places countPlaces) .0 f
 
   pub state-readable : stateSize ≤ words
   state-readable = le-of-eq (sym (eqb-true _ _ (state-tests .0)))

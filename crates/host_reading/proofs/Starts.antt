@@ -1,4 +1,4 @@
--- A gate state put together from its parts, and what a call starts from where what is lent fits.
+-- A gate state put together from its parts, and what a call starts from where what is lent has its lengths.
 use Prim.Native.Nat.{ℕ}
 use mathlib.Core.Path.{_≡_, sym, ap, _∙_}
 use mathlib.Core.Bool.{Bool, true, false, not}
@@ -10,32 +10,34 @@ use Rattle.model.specs.declared.GateState.{GateState}
 use Rattle.model.specs.Words.{wordAt}
 use Rattle.host_reading.specs.declared.MachineLent.{MachineLent}
 use Rattle.host_reading.specs.declared.StateLent.{StateLent}
-use Rattle.host_reading.specs.Layout.{rowIn, leftIn, machineIn, machineFormed, stateWith, stateIn, stateFormed, fitting, machineLent, stateLent}
+use Rattle.host_reading.specs.Layout.{rowIn, leftIn, machineIn, machineFormed, stateAround, stateIn, stateFormed, wordsIf, machineLent, stateLent}
 
 pub state-from : (words : List ℕ) (m : Machine) → m ≡ machineIn words → (row : ℕ) → row ≡ rowIn (wordAt words 12) (wordAt words 20)
-    → (left : ℕ) → left ≡ leftIn (wordAt words 20) → stateWith words m row left ≡ stateIn words
+    → (left : ℕ) → left ≡ leftIn (wordAt words 20) → stateAround words m row left ≡ stateIn words
 unfolding stateIn
 state-from words m e row f left g = rw (e, f, g)
 
 module _ (words : List ℕ) (places due : ℕ) where
-  pub machine-lent-from : (m : Machine) (fits : Bool) → fits ≡ machineFormed (length words) places due → m ≡ machineIn (fitting fits words) → record { fits = fits; machine = m } ≡ machineLent words places due
+  pub machine-lent-from : (m : Machine) (formed : Bool) → formed ≡ machineFormed (length words) places due
+      → m ≡ machineIn (wordsIf formed words) → record { formed = formed; machine = m } ≡ machineLent words places due
   unfolding machineLent
-  machine-lent-from m fits f e = rw (e, f)
+  machine-lent-from m formed f e = rw (e, f)
 
-pub state-lent-from : (words : List ℕ) (places : ℕ) (s : GateState) (fits : Bool) → fits ≡ stateFormed (length words) places → s ≡ stateIn (fitting fits words) → record { fits = fits; state = s } ≡ stateLent words places
+pub state-lent-from : (words : List ℕ) (places : ℕ) (s : GateState) (formed : Bool) → formed ≡ stateFormed (length words) places
+    → s ≡ stateIn (wordsIf formed words) → record { formed = formed; state = s } ≡ stateLent words places
 unfolding stateLent
-state-lent-from words places s fits f e = rw (e, f)
+state-lent-from words places s formed f e = rw (e, f)
 
 -- a call that is turned down, and one that goes on from the words that it was lent
 module _ (words : List ℕ) (places due : ℕ) (r : MachineLent) (e : r ≡ machineLent words places due) where
-  tested : r .fits ≡ machineFormed (length words) places due
+  tested : r .formed ≡ machineFormed (length words) places due
   unfolding machineLent
-  tested = ap (λ (l : MachineLent). l .fits) e
+  tested = ap (λ (l : MachineLent). l .formed) e
 
-  pub machine-misfits : not (r .fits) ≡ true → machineFormed (length words) places due ≡ false
+  pub machine-misfits : not (r .formed) ≡ true → machineFormed (length words) places due ≡ false
   machine-misfits n = sym tested ∙ not-true _ n
 
-  module _ (n : not (r .fits) ≡ false) where
+  module _ (n : not (r .formed) ≡ false) where
     pub machine-formed : machineFormed (length words) places due ≡ true
     machine-formed = sym tested ∙ not-false _ n
 
@@ -44,14 +46,14 @@ module _ (words : List ℕ) (places due : ℕ) (r : MachineLent) (e : r ≡ mach
     machine-start = ap (λ (l : MachineLent). l .machine) e ∙ rw machine-formed
 
 module _ (words : List ℕ) (places : ℕ) (r : StateLent) (e : r ≡ stateLent words places) where
-  state-tested : r .fits ≡ stateFormed (length words) places
+  state-tested : r .formed ≡ stateFormed (length words) places
   unfolding stateLent
-  state-tested = ap (λ (l : StateLent). l .fits) e
+  state-tested = ap (λ (l : StateLent). l .formed) e
 
-  pub state-misfits : not (r .fits) ≡ true → stateFormed (length words) places ≡ false
+  pub state-misfits : not (r .formed) ≡ true → stateFormed (length words) places ≡ false
   state-misfits n = sym state-tested ∙ not-true _ n
 
-  module _ (n : not (r .fits) ≡ false) where
+  module _ (n : not (r .formed) ≡ false) where
     pub state-formed : stateFormed (length words) places ≡ true
     state-formed = sym state-tested ∙ not-false _ n
 

@@ -8,7 +8,7 @@ use Rattle.model.specs.declared.Flags.{Flags}
 use Rattle.model.specs.declared.Machine.{Machine}
 use Rattle.model.specs.declared.GateState.{GateState}
 use Rattle.model.specs.Words.{wordAt}
-use Rattle.model.specs.Interpreter.{machine}
+use Rattle.model.specs.Interpreter.{machineWith}
 use Rattle.host_reading.specs.declared.MachineLent.{MachineLent}
 use Rattle.host_reading.specs.declared.StateLent.{StateLent}
 
@@ -16,16 +16,15 @@ use Rattle.host_reading.specs.declared.StateLent.{StateLent}
 abbrev pub truth : ℕ → Bool
 truth word = not (eqb word 0)
 
--- ---- the result's places due: of a run and a file run, of a gate run and one clock, of a read and a write of an image
+-- ---- the result's places due
 
+-- of a run and a file run
 abbrev pub runPlaces : ℕ
 runPlaces = 2
 
-abbrev pub gatePlaces : ℕ
-gatePlaces = 1
-
-abbrev pub imagePlaces : ℕ
-imagePlaces = 1
+-- a result of one count: of a gate run and one clock, of a read and a write of an image
+abbrev pub countPlaces : ℕ
+countPlaces = 1
 
 -- ---- 12 words: r0 to r7, C, V, N, Z
 
@@ -54,7 +53,7 @@ flagsIn words =
     }
 
 unfoldable pub machineIn : List ℕ → Machine
-machineIn words = machine (registersIn words) (flagsIn words)
+machineIn words = machineWith (registersIn words) (flagsIn words)
 
 -- whether so many words are a machine's, and so many result places those due
 unfoldable pub machineFormed : (words places due : ℕ) → Bool
@@ -78,12 +77,12 @@ abbrev pub leftIn : ℕ → ℕ
 leftIn word = min word mostClocksLeft
 
 -- a gate state of so much: its machine, its row, its clocks left, and the words between
-module _ (words : List ℕ) (machine : Machine) (row left : ℕ) where
-  abbrev pub stateWith : GateState
-  stateWith =
+module _ (words : List ℕ) (m : Machine) (row left : ℕ) where
+  abbrev pub stateAround : GateState
+  stateAround =
       record {
-        regs = machine .regs;
-        flags = machine .flags;
+        regs = m .regs;
+        flags = m .flags;
         row = row;
         instruction = wordAt words 13;
         address = wordAt words 14;
@@ -96,23 +95,23 @@ module _ (words : List ℕ) (machine : Machine) (row left : ℕ) where
       }
 
 unfoldable pub stateIn : List ℕ → GateState
-stateIn words = stateWith words (machineIn words) (rowIn (wordAt words 12) (wordAt words 20)) (leftIn (wordAt words 20))
+stateIn words = stateAround words (machineIn words) (rowIn (wordAt words 12) (wordAt words 20)) (leftIn (wordAt words 20))
 
 -- whether so many words are a gate state's, and so many result places those due
 unfoldable pub stateFormed : (words places : ℕ) → Bool
-stateFormed words places = eqb words stateSize && eqb places gatePlaces
+stateFormed words places = eqb words stateSize && eqb places countPlaces
 
 -- ---- what a call starts from: the words, or none where what is lent does not fit; a word that is not there counts as 0
 
-abbrev pub fitting : Bool → List ℕ → List ℕ
-fitting fits words = cond fits words []
+abbrev pub wordsIf : Bool → List ℕ → List ℕ
+wordsIf formed words = cond formed words []
 
 unfoldable pub machineLent : List ℕ → (places due : ℕ) → MachineLent
 machineLent words places due =
-    let fits = machineFormed (length words) places due in
-    record { fits = fits; machine = machineIn (fitting fits words) }
+    let formed = machineFormed (length words) places due in
+    record { formed = formed; machine = machineIn (wordsIf formed words) }
 
 unfoldable pub stateLent : List ℕ → (places : ℕ) → StateLent
 stateLent words places =
-    let fits = stateFormed (length words) places in
-    record { fits = fits; state = stateIn (fitting fits words) }
+    let formed = stateFormed (length words) places in
+    record { formed = formed; state = stateIn (wordsIf formed words) }

@@ -1,9 +1,9 @@
 // What a call of the host library starts from, read from lent words: specs/Layout.antt has their layout.
-mod fits;
+mod formed;
 mod reading;
 
-use fits::machine_formed;
-use fits::state_formed;
+use formed::machine_formed;
+use formed::state_formed;
 use model::GateState;
 use model::Machine;
 use reading::machine_in;
@@ -15,21 +15,20 @@ pub const MACHINE_SIZE: usize = 12;
 
 pub const STATE_SIZE: usize = 21;
 
-// The result's places due: of a run and a file run, of a gate run and one clock, of a read and a write of an image.
+// The result's places due: of a run and a file run.
 pub const RUN_PLACES: usize = 2;
 
-pub const GATE_PLACES: usize = 1;
-
-pub const IMAGE_PLACES: usize = 1;
+// The place due of one count: of a gate run and one clock, of a read and a write of an image.
+pub const COUNT_PLACES: usize = 1;
 
 // A machine, and whether what is lent has the layout's lengths; all 0 where it has not.
 pub struct MachineLent {
-    pub fits: bool,
+    pub formed: bool,
     pub machine: Machine,
 }
 
 pub struct StateLent {
-    pub fits: bool,
+    pub formed: bool,
     pub state: GateState,
 }
 
@@ -38,12 +37,12 @@ pub fn machine_lent(words: &[u32], places: usize, due: usize) -> MachineLent
 {
     if machine_formed(words.len(), places, due) {
         return MachineLent {
-            fits: true,
+            formed: true,
             machine: machine_in(words),
         };
     }
     MachineLent {
-        fits: false,
+        formed: false,
         machine: machine_in(&[0; MACHINE_SIZE]),
     }
 }
@@ -53,12 +52,12 @@ pub fn state_lent(words: &[u32], places: usize) -> StateLent
 {
     if state_formed(words.len(), places) {
         return StateLent {
-            fits: true,
+            formed: true,
             state: state_in(words),
         };
     }
     StateLent {
-        fits: false,
+        formed: false,
         state: state_in(&[0; STATE_SIZE]),
     }
 }

@@ -7,7 +7,7 @@ use native.Mathlib.Numerals.{add-one}
 use native.Mathlib.Omega.{arith}
 use lib.ListN.{length, take, drop, getD, length-append, length-drop, take-append-drop}
 use lib.Seq.{take-at, drop-at, length-take-le, drop-cons}
-use Rattle.image.specs.Bytes.{bytesOf, number, wordBytes, wordsIn, Below}
+use Rattle.image.specs.Bytes.{bytesOf, numberIn, wordBytes, wordsIn, Below}
 
 pub no-elements : (list : List ℕ) → length list ≡ 0 → list ≡ []
 no-elements [] e = refl
@@ -20,25 +20,25 @@ unfolding bytesOf
 length-bytes zero n = refl
 length-bytes (suc k) n = ap suc (length-bytes k (n / 256))
 
-pub number-bytes : (k n : ℕ) → n < 256 ^ k → number (bytesOf k n) ≡ n
-unfolding bytesOf number
+pub number-bytes : (k n : ℕ) → n < 256 ^ k → numberIn (bytesOf k n) ≡ n
+unfolding bytesOf numberIn
 number-bytes zero n h = omega arith
 number-bytes (suc k) n h =
     let h′ : n < 256 ^ k * 256 = rw pow-suc at h in
-    let e : number (bytesOf k (n / 256)) ≡ n / 256 = number-bytes k (n / 256) (div-lt-iff-lt-mul (omega arith) .1 h′) in
+    let e : numberIn (bytesOf k (n / 256)) ≡ n / 256 = number-bytes k (n / 256) (div-lt-iff-lt-mul (omega arith) .1 h′) in
     omega arith
 
-pub bytes-number : (bytes : List ℕ) → Below 256 bytes → bytesOf (length bytes) (number bytes) ≡ bytes
-unfolding bytesOf number
+pub bytes-number : (bytes : List ℕ) → Below 256 bytes → bytesOf (length bytes) (numberIn bytes) ≡ bytes
+unfolding bytesOf numberIn
 bytes-number [] h = refl
 bytes-number (b ∷ bytes) h =
-    let e₀ : (b + 256 * number bytes) % 256 ≡ b = omega (arith, h .0) in
-    let e₁ : (b + 256 * number bytes) / 256 ≡ number bytes = omega (arith, h .0) in
+    let e₀ : (b + 256 * numberIn bytes) % 256 ≡ b = omega (arith, h .0) in
+    let e₁ : (b + 256 * numberIn bytes) / 256 ≡ numberIn bytes = omega (arith, h .0) in
     ap₂ {C = List ℕ} (λ (x : ℕ) (r : List ℕ). x ∷ r) e₀ (ap (bytesOf (length bytes)) e₁ ∙ bytes-number bytes (h .1))
 
 -- a single byte is its number
-pub single : (bytes : List ℕ) → length bytes ≡ 1 → bytes ≡ number bytes ∷ []
-unfolding number
+pub single : (bytes : List ℕ) → length bytes ≡ 1 → bytes ≡ numberIn bytes ∷ []
+unfolding numberIn
 single [] e = absurd (omega arith)
 single (b ∷ []) e = let z : b ≡ b + 0 = omega arith in ap {B = List ℕ} (λ (x : ℕ). x ∷ []) z
 single (b ∷ d ∷ bytes) e = absurd (omega arith)
@@ -83,7 +83,7 @@ unfolding wordBytes wordsIn
 words-of-bytes [] h = refl
 words-of-bytes (w ∷ words) h =
     ap₂ {C = List ℕ} (λ (x : ℕ) (r : List ℕ). x ∷ r)
-    (ap number (take-at (bytesOf 4 w) (wordBytes words) 4 (length-bytes 4 w)) ∙ number-bytes 4 w (h .0))
+    (ap numberIn (take-at (bytesOf 4 w) (wordBytes words) 4 (length-bytes 4 w)) ∙ number-bytes 4 w (h .0))
     (ap (wordsIn (length words)) (drop-at (bytesOf 4 w) (wordBytes words) 4 (length-bytes 4 w)) ∙ words-of-bytes words (h .1))
 
 pub bytes-of-words : (n : ℕ) (bytes : List ℕ) → length bytes ≡ 4 * n → Below 256 bytes → wordBytes (wordsIn n bytes) ≡ bytes
@@ -91,6 +91,6 @@ unfolding wordBytes wordsIn
 bytes-of-words zero bytes e h = sym (no-elements bytes e)
 bytes-of-words (suc n) bytes e h =
     let l : length (take 4 bytes) ≡ 4 = length-take-le 4 bytes (omega arith) in
-    let e₀ : bytesOf 4 (number (take 4 bytes)) ≡ take 4 bytes = ap (λ (k : ℕ). bytesOf k (number (take 4 bytes))) (sym l) ∙ bytes-number (take 4 bytes) (below-take 256 4 bytes h) in
+    let e₀ : bytesOf 4 (numberIn (take 4 bytes)) ≡ take 4 bytes = ap (λ (k : ℕ). bytesOf k (numberIn (take 4 bytes))) (sym l) ∙ bytes-number (take 4 bytes) (below-take 256 4 bytes h) in
     ap₂ (λ (a b : List ℕ). a ++ b) e₀ (bytes-of-words n (drop 4 bytes) (simp length-drop (omega arith)) (below-drop 256 4 bytes h))
     ∙ take-append-drop 4 bytes

@@ -15,7 +15,7 @@ use Rattle.model.specs.declared.Verdict.{Verdict}
 use Rattle.model.specs.declared.Verdict.the-variants.{Accepted, Refused}
 use Rattle.model.specs.Refusals.{demand, _then_, mostWords}
 use Rattle.model.specs.Packed.{flagNumbers}
-use Rattle.image.specs.Bytes.{bytesOf, number, wordBytes, wordsIn, Below}
+use Rattle.image.specs.Bytes.{bytesOf, numberIn, wordBytes, wordsIn, Below}
 use Rattle.image.specs.Format.{Field, fieldBytes, isVersion, versionField, registersField, flagsField, countField, wordsField, endField, wordsPerField, fieldsFor, memoryFields, imageOf}
 use Rattle.image.specs.Reading.{Outcome, refused, _▷_, headerVerdict, fieldVerdict, readField, readMemory, readOf}
 use Rattle.image.specs.Theorems.{Cut}
@@ -103,7 +103,7 @@ memory-cut (suc n) words memory rest next l h b later k q =
 
 count-rule : (memory : List ℕ) (room : ℕ) → 1 ≤ length memory → length memory ≤ mostWords → length memory ≤ room → countField room .rule (bytesOf 4 (length memory)) ≡ Accepted
 count-rule memory room some most fits =
-    let M : ℕ = number (bytesOf 4 (length memory)) in
+    let M : ℕ = numberIn (bytesOf 4 (length memory)) in
     let e : M ≡ length memory = number-bytes 4 (length memory) (omega arith) in
     let a : leb 1 M ≡ true = le-leb 1 M (omega arith) in
     let b : leb M mostWords ≡ true = le-leb M mostWords (omega arith) in
@@ -111,7 +111,7 @@ count-rule memory room some most fits =
     rw (a, b, c)
 
 version-rule : (version : ℕ) → isVersion version ≡ true → versionField .rule (version ∷ []) ≡ Accepted
-unfolding number
+unfolding numberIn
 version-rule version known =
     let e : version + 0 ≡ version = omega arith in
     ap (λ (v : ℕ). demand (isVersion v) WrongVersion) e ∙ ap (λ (t : Bool). demand t WrongVersion) known
@@ -121,7 +121,7 @@ unfolding readOf imageOf fieldBytes
 cut version machine memory room known eight some most memory-below fits k h =
     let lr : length (wordBytes (machine .regs)) ≡ 32 = length-word-bytes (machine .regs) ∙ ap (λ (n : ℕ). 4 * n) eight in
     let count : List ℕ = bytesOf 4 (length memory) in
-    let eM : number count ≡ length memory = number-bytes 4 (length memory) (omega arith) in
+    let eM : numberIn count ≡ length memory = number-bytes 4 (length memory) (omega arith) in
     let last : List ℕ → List ℕ → Outcome = endFrom room (version ∷ []) (wordBytes (machine .regs)) (flagNumbers (machine .flags)) in
     field-cut versionField (version ∷ []) _ _ refl (lit< tt) (version-rule version known) k h λ k₁ h₁.
     field-cut registersField (wordBytes (machine .regs)) _ _ lr (lit< tt) refl k₁ h₁ λ k₂ h₂.

@@ -14,7 +14,7 @@ use Rattle.model.specs.declared.Verdict.{Verdict}
 use Rattle.model.specs.declared.Verdict.the-variants.{Accepted}
 use Rattle.model.specs.Refusals.{demand, _then_}
 use Rattle.model.proofs.Verdicts.{demanded, both}
-use Rattle.image.specs.Bytes.{bytesOf, number, Below}
+use Rattle.image.specs.Bytes.{bytesOf, numberIn, Below}
 use Rattle.image.specs.Format.{Field, fieldBytes}
 use Rattle.image.specs.Reading.{Outcome, loaded, _▷_, headerVerdict, fieldVerdict, readField}
 use Rattle.image.proofs.Bytes.{number-bytes, bytes-number, below-take, below-drop}
@@ -73,17 +73,17 @@ pub record Taken (f : Field) (bytes : List ℕ) (next : List ℕ → List ℕ �
 module _ (f : Field) where
   -- what an accepted field shows
   pub facts : (bytes : List ℕ) → fieldVerdict f bytes ≡ Accepted
-      → (3 ≤ length bytes) × (getD bytes 0 0 ≡ f .tag) × (number (take 2 (drop 1 bytes)) ≡ f .due) × (3 + f .due ≤ length bytes)
+      → (3 ≤ length bytes) × (getD bytes 0 0 ≡ f .tag) × (numberIn (take 2 (drop 1 bytes)) ≡ f .due) × (3 + f .due ≤ length bytes)
       × (f .rule (take (f .due) (drop 3 bytes)) ≡ Accepted)
   unfolding headerVerdict fieldVerdict
   facts bytes e =
       let h = both (headerVerdict (f .tag) (f .due) bytes) _ e in
       let h₀ = both (demand (leb 3 (length bytes)) _) _ (h .0) in
       let h₁ = both (demand (eqb (getD bytes 0 0) (f .tag)) _) _ (h₀ .1) in
-      let h₂ = both (demand (eqb (number (take 2 (drop 1 bytes))) (f .due)) _) _ (h₁ .1) in
+      let h₂ = both (demand (eqb (numberIn (take 2 (drop 1 bytes))) (f .due)) _) _ (h₁ .1) in
       (leb-true _ _ (demanded _ _ (h₀ .0)), eqb-true _ _ (demanded _ _ (h₁ .0)), eqb-true _ _ (demanded _ _ (h₂ .0)), leb-true _ _ (demanded _ _ (h₂ .1)), h .1)
 
-  field-is : (t a b : ℕ) (rest : List ℕ) → t ≡ f .tag → number (a ∷ b ∷ []) ≡ f .due → f .due ≤ length rest → Below 256 (a ∷ b ∷ [])
+  field-is : (t a b : ℕ) (rest : List ℕ) → t ≡ f .tag → numberIn (a ∷ b ∷ []) ≡ f .due → f .due ≤ length rest → Below 256 (a ∷ b ∷ [])
       → (t ∷ a ∷ b ∷ rest) ≡ fieldBytes f (take (f .due) rest) ++ drop (f .due) rest
   unfolding fieldBytes
   field-is t a b rest p q h k =
@@ -101,7 +101,7 @@ module _ (f : Field) where
       go bytes h (facts bytes (w .0)) (w .1)
     where
       go : {o : Outcome} (bytes : List ℕ) → Below 256 bytes
-          → (3 ≤ length bytes) × (getD bytes 0 0 ≡ f .tag) × (number (take 2 (drop 1 bytes)) ≡ f .due) × (3 + f .due ≤ length bytes)
+          → (3 ≤ length bytes) × (getD bytes 0 0 ≡ f .tag) × (numberIn (take 2 (drop 1 bytes)) ≡ f .due) × (3 + f .due ≤ length bytes)
           × (f .rule (take (f .due) (drop 3 bytes)) ≡ Accepted)
           → next (take (f .due) (drop 3 bytes)) (drop (3 + f .due) bytes) ≡ o → Taken f bytes next o
       go [] h k e = absurd (omega (arith, k .0))

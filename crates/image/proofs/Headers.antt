@@ -14,7 +14,7 @@ use Rattle.model.specs.declared.Verdict.{Verdict}
 use Rattle.model.specs.declared.Verdict.the-variants.{Accepted, Refused}
 use Rattle.model.specs.Refusals.{demand, _then_}
 use Rattle.model.proofs.Verdicts.{then-accepted}
-use Rattle.image.specs.Bytes.{number}
+use Rattle.image.specs.Bytes.{numberIn}
 use Rattle.image.specs.Format.{Field}
 use Rattle.image.specs.Reading.{headerVerdict, fieldVerdict}
 
@@ -23,7 +23,7 @@ module _ (tag due at : ℕ) (bytes : List ℕ) where
   abbrev tests : Bool → Bool → Bool → Bool → Verdict
   tests a b c d = demand a CutImage then demand b WrongTag then demand c WrongLength then demand d CutImage
 
-  out : (a b c d : Bool) → leb 3 (length bytes - at) ≡ a → eqb (getD bytes at 0) tag ≡ b → eqb (number (take 2 (drop (at + 1) bytes))) due ≡ c
+  out : (a b c d : Bool) → leb 3 (length bytes - at) ≡ a → eqb (getD bytes at 0) tag ≡ b → eqb (numberIn (take 2 (drop (at + 1) bytes))) due ≡ c
       → leb (3 + due) (length bytes - at) ≡ d → tests a b c d ≡ headerVerdict tag due (drop at bytes)
   unfolding headerVerdict
   out a b c d pa pb pc pd =
@@ -31,7 +31,7 @@ module _ (tag due at : ℕ) (bytes : List ℕ) where
       let g : getD (drop at bytes) 0 0 ≡ getD bytes at 0 = getD-drop at bytes 0 0 ∙ ap (λ (n : ℕ). getD bytes n 0) (add-zero at) in
       let e₀ : leb 3 (length (drop at bytes)) ≡ a = ap (leb 3) l ∙ pa in
       let e₁ : eqb (getD (drop at bytes) 0 0) tag ≡ b = ap (λ (n : ℕ). eqb n tag) g ∙ pb in
-      let e₂ : eqb (number (take 2 (drop 1 (drop at bytes)))) due ≡ c = ap (λ (x : List ℕ). eqb (number (take 2 x)) due) (drop-drop 1 at bytes) ∙ pc in
+      let e₂ : eqb (numberIn (take 2 (drop 1 (drop at bytes)))) due ≡ c = ap (λ (x : List ℕ). eqb (numberIn (take 2 x)) due) (drop-drop 1 at bytes) ∙ pc in
       let e₃ : leb (3 + due) (length (drop at bytes)) ≡ d = ap (leb (3 + due)) l ∙ pd in
       λ i. tests (sym e₀ i) (sym e₁ i) (sym e₂ i) (sym e₃ i)
 
@@ -48,10 +48,10 @@ module _ (tag due at : ℕ) (bytes : List ℕ) where
     wrong-tag t = out true false _ _ header (ne-eqb _ _ t) refl refl
 
     module _ (t : getD bytes at 0 ≡ tag) where
-      pub wrong-length : (number (take 2 (drop (at + 1) bytes)) ≡ due → ⊥) → Refused WrongLength ≡ headerVerdict tag due (drop at bytes)
+      pub wrong-length : (numberIn (take 2 (drop (at + 1) bytes)) ≡ due → ⊥) → Refused WrongLength ≡ headerVerdict tag due (drop at bytes)
       wrong-length n = out true true false _ header (eq-eqb _ _ t) (ne-eqb _ _ n) refl
 
-      module _ (n : number (take 2 (drop (at + 1) bytes)) ≡ due) where
+      module _ (n : numberIn (take 2 (drop (at + 1) bytes)) ≡ due) where
         pub cut-value : length bytes < at + 3 + due → Refused CutImage ≡ headerVerdict tag due (drop at bytes)
         cut-value e =
             let k : length bytes - at < 3 + due = omega arith in

@@ -14,7 +14,7 @@ use Rattle.model.specs.declared.Verdict.the-variants.{Accepted}
 use Rattle.model.specs.Refusals.{demand, _then_, mostWords}
 use Rattle.model.specs.Packed.{flagNumbers}
 use Rattle.model.proofs.Verdicts.{then-assoc, demanded}
-use Rattle.image.specs.Bytes.{bytesOf, number, wordBytes, wordsIn, Below}
+use Rattle.image.specs.Bytes.{bytesOf, numberIn, wordBytes, wordsIn, Below}
 use Rattle.image.specs.Format.{fieldBytes, isVersion, countFormed, versionField, registersField, flagsField, countField, endField, fieldsFor, memoryFields, imageOf}
 use Rattle.image.specs.Reading.{Outcome, loaded, _▷_, readOf, machineFrom}
 use Rattle.image.specs.Theorems.{RoundTrip, OnlyImages, ImageRead, Size}
@@ -28,7 +28,7 @@ use Rattle.image.proofs.Stages.{endFrom, memoryFrom, countFrom, flagsFr
 -- ---- what was written is read, and what is refused of it
 
 pub image-read : ImageRead
-unfolding readOf imageOf fieldBytes number
+unfolding readOf imageOf fieldBytes numberIn
 image-read version machine memory rest room eight registers-below few memory-below =
     let onVersion : Verdict = demand (isVersion version) WrongVersion in
     let onCount : Verdict = demand (countFormed (length memory)) BadWordCount in
@@ -36,7 +36,7 @@ image-read version machine memory rest room eight registers-below few memory-bel
     let onRest : Verdict = demand (eqb (length rest) 0) TrailingBytes in
     let lr : length (wordBytes (machine .regs)) ≡ 32 = length-word-bytes (machine .regs) ∙ ap (λ (n : ℕ). 4 * n) eight in
     let eV : version + 0 ≡ version = omega arith in
-    let M : ℕ = number (bytesOf 4 (length memory)) in
+    let M : ℕ = numberIn (bytesOf 4 (length memory)) in
     let eM : M ≡ length memory = number-bytes 4 (length memory) few in
     let o : Outcome = loaded version machine memory in
     let w : Verdict = onCount then onRoom then onRest in
@@ -82,18 +82,18 @@ module _ (room version₀ : ℕ) (machine : Machine) (memory : List ℕ) where
   all = loaded version₀ machine memory
 
   end-is : (version registers flags words bytes : List ℕ) → Below 256 bytes → endFrom room version registers flags words bytes ≡ all
-      → (bytes ≡ end) × (number version ≡ version₀) × (machineFrom registers flags ≡ machine) × (words ≡ memory)
+      → (bytes ≡ end) × (numberIn version ≡ version₀) × (machineFrom registers flags ≡ machine) × (words ≡ memory)
   end-is version registers flags words bytes h e =
-      let t = field-taken endField (λ (nothing rest : List ℕ). demand (eqb (length rest) 0) TrailingBytes ▷ loaded (number version) (machineFrom registers flags) words) bytes h e in
-      let k = went-on (demand (eqb (length (t .rest)) 0) TrailingBytes) (loaded (number version) (machineFrom registers flags) words) (t .goes) in
-      let l : loaded (number version) (machineFrom registers flags) words ≡ all = k .1 in
+      let t = field-taken endField (λ (nothing rest : List ℕ). demand (eqb (length rest) 0) TrailingBytes ▷ loaded (numberIn version) (machineFrom registers flags) words) bytes h e in
+      let k = went-on (demand (eqb (length (t .rest)) 0) TrailingBytes) (loaded (numberIn version) (machineFrom registers flags) words) (t .goes) in
+      let l : loaded (numberIn version) (machineFrom registers flags) words ≡ all = k .1 in
       let none : length (t .rest) ≡ 0 = eqb-true _ _ (demanded _ _ (k .0)) in
       (t .is ∙ ap₂ (λ (x y : List ℕ). fieldBytes endField x ++ y) (no-elements (t .value) (t .long)) (no-elements (t .rest) none) ∙ append-nil end, cc, cc, cc)
 
   memory-is : (version registers flags count bytes : List ℕ) → length count ≡ 4 → Below 256 count → Below 256 bytes → memoryFrom room version registers flags count bytes ≡ all
-      → (count ≡ bytesOf 4 (length memory)) × (bytes ≡ fromMemory) × (number version ≡ version₀) × (machineFrom registers flags ≡ machine)
+      → (count ≡ bytesOf 4 (length memory)) × (bytes ≡ fromMemory) × (numberIn version ≡ version₀) × (machineFrom registers flags ≡ machine)
   memory-is version registers flags count bytes l hc h e =
-      let M : ℕ = number count in
+      let M : ℕ = numberIn count in
       let t = memory-taken (fieldsFor M) M (endFrom room version registers flags) bytes (fields-enough M) h e in
       let z = end-is version registers flags (t .memory) (t .rest) (t .rest-below) (t .goes) in
       let lm : M ≡ length memory = sym (t .long) ∙ ap length (z .3) in (
@@ -104,7 +104,7 @@ module _ (room version₀ : ℕ) (machine : Machine) (memory : List ℕ) where
       )
 
   flags-is : (version registers bytes : List ℕ) → Below 256 bytes → flagsFrom room version registers bytes ≡ all
-      → (bytes ≡ fromFlags) × (number version ≡ version₀) × (wordsIn 8 registers ≡ machine .regs)
+      → (bytes ≡ fromFlags) × (numberIn version ≡ version₀) × (wordsIn 8 registers ≡ machine .regs)
   unfolding fieldBytes
   flags-is version registers bytes h e =
       let f = field-taken flagsField (countFrom room version registers) bytes h e in
@@ -116,7 +116,7 @@ module _ (room version₀ : ℕ) (machine : Machine) (memory : List ℕ) where
         ap (λ (m : Machine). m .regs) (z .3),
       )
 
-  registers-is : (version bytes : List ℕ) → Below 256 bytes → registersFrom room version bytes ≡ all → (bytes ≡ fromRegisters) × (number version ≡ version₀)
+  registers-is : (version bytes : List ℕ) → Below 256 bytes → registersFrom room version bytes ≡ all → (bytes ≡ fromRegisters) × (numberIn version ≡ version₀)
   registers-is version bytes h e =
       let t = field-taken registersField (flagsFrom room version) bytes h e in
       let z = flags-is version (t .value) (t .rest) (t .rest-below) (t .goes) in

@@ -16,7 +16,7 @@ use Rattle.model.specs.Words.{overlay}
 use Rattle.model.proofs.Verdicts.{demanded, both}
 use Rattle.image.specs.declared.ReadAnswer.{ReadAnswer}
 use Rattle.image.specs.declared.ReadResult.{ReadResult}
-use Rattle.image.specs.Bytes.{number, wordsIn}
+use Rattle.image.specs.Bytes.{numberIn, wordsIn}
 use Rattle.image.specs.Format.{Field, versionField, registersField, flagsField, countField, wordsField, endField, wordsPerField, fieldsFor, isVersion, countFormed}
 use Rattle.image.specs.Reading.{Outcome, loaded, refused, fieldVerdict, readField, readMemory, readOf}
 use Rattle.image.specs.Calls.{readResult, outcomeWords, readReturned, readWords, Reads}
@@ -52,8 +52,8 @@ module _ {version : ℕ} {machine : Machine} {words : List ℕ} where
       let r = past registersField _ _ (v .1) in
       let f = past flagsField _ _ (r .1) in
       let c = past (countField room) _ _ (f .1) in
-      let v₀ : ℕ = number (take 1 (drop 3 bytes)) in
-      let M : ℕ = number (take 4 (drop 3 (drop 7 (drop 35 (drop 4 bytes))))) in
+      let v₀ : ℕ = numberIn (take 1 (drop 3 bytes)) in
+      let M : ℕ = numberIn (take 4 (drop 3 (drop 7 (drop 35 (drop 4 bytes))))) in
       let m = past-words (fieldsFor M) M _ _ (fields-enough M) (c .1) in
       let d = past endField _ _ (m .3) in
       let k = went-on (demand (eqb (length (drop 3 (m .1))) 0) TrailingBytes) _ (d .1) in

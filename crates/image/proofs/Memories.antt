@@ -138,9 +138,9 @@ parted words a b la lb = go (decLe wordsPerField words)
         let j : a ++ b ≡ a = ap (λ (x : List ℕ). a ++ x) e ∙ append-nil a in
         (ap (take wordsPerField) j ∙ take-all wordsPerField a (omega arith), ap (drop wordsPerField) j ∙ drop-of-length-le a {i = wordsPerField} (omega arith) ∙ sym e)
 
-none : (bytes : List ℕ) → bytes ≡ memoryFields 0 [] ++ bytes
+no-fields : (bytes : List ℕ) → bytes ≡ memoryFields 0 [] ++ bytes
 unfolding memoryFields
-none bytes = refl
+no-fields bytes = refl
 
 -- a first field and the fields after it
 fields-join : (n count : ℕ) (bytes value rest rest′ first more : List ℕ) → bytes ≡ fieldBytes (wordsField count) value ++ rest → rest ≡ memoryFields n more ++ rest′
@@ -156,7 +156,7 @@ module _ {version : ℕ} {machine : Machine} {loads : List ℕ} where
       → readMemory n words bytes next ≡ loaded version machine loads → MemoryTaken n words bytes next (loaded version machine loads)
   unfolding readMemory
   memory-taken zero words next bytes h k e =
-      record { memory = []; rest = bytes; is = none bytes; long = omega arith; rest-below = k; goes = e }
+      record { memory = []; rest = bytes; is = no-fields bytes; long = omega arith; rest-below = k; goes = e }
   memory-taken (suc n) words next bytes h k e =
       let count : ℕ = min wordsPerField words in
       let f = field-taken (wordsField count) _ bytes k e in

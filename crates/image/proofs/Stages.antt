@@ -6,7 +6,7 @@ use lib.Dec.{eqb}
 use lib.ListN.{length}
 use Rattle.model.specs.declared.Refusal.the-variants.{TrailingBytes}
 use Rattle.model.specs.Refusals.{demand}
-use Rattle.image.specs.Bytes.{number}
+use Rattle.image.specs.Bytes.{numberIn}
 use Rattle.image.specs.Format.{versionField, registersField, flagsField, countField, endField, fieldsFor}
 use Rattle.image.specs.Reading.{Outcome, loaded, _▷_, readField, readMemory, readOf, machineFrom}
 
@@ -15,10 +15,10 @@ module _ (room : ℕ) where
   endFrom version registers flags memory bytes =
       readField endField bytes λ nothing rest.
       demand (eqb (length rest) 0) TrailingBytes
-      ▷ loaded (number version) (machineFrom registers flags) memory
+      ▷ loaded (numberIn version) (machineFrom registers flags) memory
 
   abbrev pub memoryFrom : (version registers flags count bytes : List ℕ) → Outcome
-  memoryFrom version registers flags count bytes = readMemory (fieldsFor (number count)) (number count) bytes (endFrom version registers flags)
+  memoryFrom version registers flags count bytes = readMemory (fieldsFor (numberIn count)) (numberIn count) bytes (endFrom version registers flags)
 
   abbrev pub countFrom : (version registers flags bytes : List ℕ) → Outcome
   countFrom version registers flags bytes = readField (countField room) bytes (memoryFrom version registers flags)

@@ -9,9 +9,9 @@ bytesOf zero n = []
 bytesOf (suc k) n = n % 256 ∷ bytesOf k (n / 256)
 
 -- the number that bytes stand for
-unfoldable pub number : List ℕ → ℕ
-number [] = 0
-number (b ∷ bytes) = b + 256 * number bytes
+unfoldable pub numberIn : List ℕ → ℕ
+numberIn [] = 0
+numberIn (b ∷ bytes) = b + 256 * numberIn bytes
 
 -- words as bytes, four each
 unfoldable pub wordBytes : List ℕ → List ℕ
@@ -21,7 +21,7 @@ wordBytes (w ∷ words) = bytesOf 4 w ++ wordBytes words
 -- the first n words that bytes hold
 unfoldable pub wordsIn : ℕ → List ℕ → List ℕ
 wordsIn zero bytes = []
-wordsIn (suc n) bytes = number (take 4 bytes) ∷ wordsIn n (drop 4 bytes)
+wordsIn (suc n) bytes = numberIn (take 4 bytes) ∷ wordsIn n (drop 4 bytes)
 
 -- each number of a list is below a bound
 abbrev pub Below : ℕ → List ℕ → Type 0

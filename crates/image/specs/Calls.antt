@@ -11,7 +11,7 @@ use Rattle.model.specs.declared.Verdict.{Verdict}
 use Rattle.model.specs.declared.Verdict.the-variants.{Accepted, Refused}
 use Rattle.model.specs.Refusals.{refusalNumber, verdictNumber, leftBy, demand, _then_, memoryFits}
 use Rattle.model.specs.Words.{overlay}
-use Rattle.model.specs.Interpreter.{machine}
+use Rattle.model.specs.Interpreter.{machineWith}
 use Rattle.model.specs.Packed.{noFlags}
 use Rattle.image.specs.declared.WriteAnswer.{WriteAnswer}
 use Rattle.image.specs.declared.ReadAnswer.{ReadAnswer}
@@ -64,7 +64,7 @@ pub record Writes (memory : List ℕ) (machine : Machine) (out out′ : List ℕ
 
 -- a refused read returns registers 0 and flags false
 abbrev pub clearedMachine : Machine
-clearedMachine = machine (replicate 8 0) noFlags
+clearedMachine = machineWith (replicate 8 0) noFlags
 
 abbrev pub readResult : Outcome → ReadResult
 readResult (loaded version machine words) = record { answer = ReadAnswer.Loaded (length words); machine = machine }

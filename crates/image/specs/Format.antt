@@ -11,7 +11,7 @@ use Rattle.model.specs.declared.Verdict.{Verdict}
 use Rattle.model.specs.declared.Verdict.the-variants.{Accepted}
 use Rattle.model.specs.Packed.{flagNumbers}
 use Rattle.model.specs.Refusals.{demand, _then_, mostWords}
-use Rattle.image.specs.Bytes.{bytesOf, number, wordBytes}
+use Rattle.image.specs.Bytes.{bytesOf, numberIn, wordBytes}
 
 -- ---- a field
 
@@ -40,7 +40,7 @@ abbrev pub countFormed : ℕ → Bool
 countFormed words = leb 1 words && leb words mostWords
 
 abbrev pub versionField : Field
-versionField = record { tag = 0x01; due = 1; rule = λ value. demand (isVersion (number value)) WrongVersion }
+versionField = record { tag = 0x01; due = 1; rule = λ value. demand (isVersion (numberIn value)) WrongVersion }
 
 abbrev pub registersField : Field
 registersField = record { tag = 0x02; due = 32; rule = λ value. Accepted }
@@ -54,7 +54,7 @@ countField room =
     record {
       tag = 0x04;
       due = 4;
-      rule = λ value. demand (countFormed (number value)) BadWordCount then demand (leb (number value) room) ShortMemory;
+      rule = λ value. demand (countFormed (numberIn value)) BadWordCount then demand (leb (numberIn value) room) ShortMemory;
     }
 
 -- a field of so many words

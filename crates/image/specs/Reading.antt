@@ -10,7 +10,7 @@ use Rattle.model.specs.declared.Refusal.the-variants.{CutImage, WrongTag, Wrong
 use Rattle.model.specs.declared.Verdict.{Verdict}
 use Rattle.model.specs.declared.Verdict.the-variants.{Accepted, Refused}
 use Rattle.model.specs.Refusals.{demand, _then_}
-use Rattle.image.specs.Bytes.{number, wordsIn}
+use Rattle.image.specs.Bytes.{numberIn, wordsIn}
 use Rattle.image.specs.Format.{Field, versionField, registersField, flagsField, countField, wordsField, endField, wordsPerField, fieldsFor}
 
 -- what comes of reading: a version, a machine and its memory, or why not
@@ -29,7 +29,7 @@ unfoldable pub headerVerdict : (tag due : ℕ) → List ℕ → Verdict
 headerVerdict tag due bytes =
     demand (leb 3 (length bytes)) CutImage
     then demand (eqb (getD bytes 0 0) tag) WrongTag
-    then demand (eqb (number (take 2 (drop 1 bytes))) due) WrongLength
+    then demand (eqb (numberIn (take 2 (drop 1 bytes))) due) WrongLength
     then demand (leb (3 + due) (length bytes)) CutImage
 
 -- and then its value
@@ -62,7 +62,7 @@ readOf bytes room =
     readField registersField afterVersion λ registers afterRegisters.
     readField flagsField afterRegisters λ flags afterFlags.
     readField (countField room) afterFlags λ count afterCount.
-    readMemory (fieldsFor (number count)) (number count) afterCount λ memory afterMemory.
+    readMemory (fieldsFor (numberIn count)) (numberIn count) afterCount λ memory afterMemory.
     readField endField afterMemory λ nothing rest.
     demand (eqb (length rest) 0) TrailingBytes
-    ▷ loaded (number version) (machineFrom registers flags) memory
+    ▷ loaded (numberIn version) (machineFrom registers flags) memory

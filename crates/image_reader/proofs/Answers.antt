@@ -1,4 +1,4 @@
--- What the reader answers, from what its two passes did.
+-- What the reader answers, from what its two by-passes did.
 use Prim.Native.Nat.{ℕ, _+_, _≤_}
 use mathlib.Core.Path.{_≡_, refl, sym, ap, _∙_}
 use mathlib.Core.Bool.{and-eq-true-iff}
@@ -22,7 +22,7 @@ use Rattle.image.specs.Reading.{Outcome, loaded, refused, _▷_, headerVerdict,
 use Rattle.image.specs.Calls.{clearedMachine, readResult, outcomeWords, outcomeNumber, outcomeCount, readNumber, readCount, readReturned, readWords, Reads}
 use Rattle.image.proofs.Memories.{fields-enough}
 use Rattle.image_reader.specs.Passes.{imageCount, imageMachine, imageMemory, headVerdict, memoryVerdict, endVerdict, tailVerdict, imageVerdict}
-use Rattle.image_reader.proofs.Passes.{imageVersion, imageWords, passes, length-image-memory}
+use Rattle.image_reader.proofs.Passes.{imageVersion, imageWords, by-passes, length-image-memory}
 
 -- what an accepted head shows of the word count
 pub head-accepted : (bytes : List ℕ) (room : ℕ) → headVerdict bytes room ≡ Accepted → (imageCount bytes ≤ mostWords) × (imageCount bytes ≤ room)
@@ -88,7 +88,7 @@ module _ (bytes memory : List ℕ) where
 
   -- the outcome of a verdict
   outcome : (v : Verdict) → v ≡ imageVerdict bytes (length memory) → (v ▷ loaded (imageVersion bytes) (imageMachine bytes) (imageWords bytes)) ≡ readOf bytes (length memory)
-  outcome v e = ap (λ (x : Verdict). x ▷ loaded (imageVersion bytes) (imageMachine bytes) (imageWords bytes)) e ∙ sym (passes bytes (length memory))
+  outcome v e = ap (λ (x : Verdict). x ▷ loaded (imageVersion bytes) (imageMachine bytes) (imageWords bytes)) e ∙ sym (by-passes bytes (length memory))
 
   pub read-refused : (why : Refusal) (m : Machine) → Refused why ≡ imageVerdict bytes (length memory) → m ≡ clearedMachine
       → Reads bytes memory memory (record { answer = ReadAnswer.Refused why; machine = m })

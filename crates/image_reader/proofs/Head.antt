@@ -9,7 +9,7 @@ use lib.Seq.{drop-drop}
 use Rattle.model.specs.declared.Refusal.the-variants.{WrongVersion, BadFlag, BadWordCount, ShortMemory}
 use Rattle.model.specs.declared.Verdict.{Verdict}
 use Rattle.model.specs.Refusals.{demand, _then_}
-use Rattle.image.specs.Bytes.{number}
+use Rattle.image.specs.Bytes.{numberIn}
 use Rattle.image.specs.Format.{versionField, registersField, flagsField, countField, isVersion, flagsFormed, countFormed}
 use Rattle.image.specs.Reading.{headerVerdict, fieldVerdict}
 use Rattle.image.proofs.Headers.{without-rule}
@@ -28,7 +28,7 @@ pub count-checked : (bytes : List ℕ) (n room : ℕ) → n ≡ imageCount bytes
     → (demand (countFormed n) BadWordCount then demand (leb n room) ShortMemory) ≡ countField room .rule (take 4 (drop 3 (drop 46 bytes)))
 count-checked bytes n room e =
     ap (λ (x : ℕ). demand (countFormed x) BadWordCount then demand (leb x room) ShortMemory)
-    (e ∙ ap (λ (l : List ℕ). number (take 4 l)) (sym (drop-drop 3 46 bytes)))
+    (e ∙ ap (λ (l : List ℕ). numberIn (take 4 l)) (sym (drop-drop 3 46 bytes)))
 
 -- the four fields of the head
 pub head-of : (bytes : List ℕ) (room : ℕ) {version registers flags count v₂ v₃ v : Verdict}

@@ -11,7 +11,7 @@ use Rattle.model.specs.declared.Refusal.the-variants.{TrailingBytes}
 use Rattle.model.specs.declared.Verdict.{Verdict}
 use Rattle.model.specs.Refusals.{demand, _then_}
 use Rattle.model.proofs.Verdicts.{then-assoc}
-use Rattle.image.specs.Bytes.{number, wordsIn}
+use Rattle.image.specs.Bytes.{numberIn, wordsIn}
 use Rattle.image.specs.Format.{Field, versionField, registersField, flagsField, countField, wordsField, endField, wordsPerField, fieldsFor, spanOf}
 use Rattle.image.specs.Reading.{Outcome, loaded, _▷_, fieldVerdict, readField, readMemory, readOf, machineFrom}
 use Rattle.image.proofs.Bytes.{length-words}
@@ -23,7 +23,7 @@ use Rattle.image_reader.specs.Passes.{imageCount, imageMachine, imageMem
 
 -- the version and the words of an image, by place
 abbrev pub imageVersion : List ℕ → ℕ
-imageVersion bytes = number (take 1 (drop 3 bytes))
+imageVersion bytes = numberIn (take 1 (drop 3 bytes))
 
 abbrev pub imageWords : List ℕ → List ℕ
 imageWords bytes = imageMemory (fieldsFor (imageCount bytes)) (imageCount bytes) (drop 53 bytes)
@@ -64,10 +64,10 @@ length-image-memory (suc n) words bytes h =
     ∙ omega arith
 
 end-passes : (room : ℕ) (version registers flags memory bytes : List ℕ)
-    → endFrom room version registers flags memory bytes ≡ (endVerdict bytes ▷ loaded (number version) (machineFrom registers flags) memory)
+    → endFrom room version registers flags memory bytes ≡ (endVerdict bytes ▷ loaded (numberIn version) (machineFrom registers flags) memory)
 unfolding endVerdict readField
 end-passes room version registers flags memory bytes =
-    joined (fieldVerdict endField bytes) (demand (eqb (length (drop 3 bytes)) 0) TrailingBytes) (loaded (number version) (machineFrom registers flags) memory) refl
+    joined (fieldVerdict endField bytes) (demand (eqb (length (drop 3 bytes)) 0) TrailingBytes) (loaded (numberIn version) (machineFrom registers flags) memory) refl
 
 -- ---- the whole
 
@@ -100,9 +100,9 @@ module _ (bytes : List ℕ) (room : ℕ) where
       (end-passes room version registers flags (imageWords bytes) (drop (spanOf M) (drop 53 bytes))
       ∙ ap₂ (λ (x : List ℕ) (m : Machine). endVerdict x ▷ loaded (imageVersion bytes) m (imageWords bytes)) (drop-drop (spanOf M) 53 bytes) (machine-take (drop 42 bytes) (drop 7 bytes)))
 
-  pub passes : readOf bytes room ≡ (imageVerdict bytes room ▷ all)
+  pub by-passes : readOf bytes room ≡ (imageVerdict bytes room ▷ all)
   unfolding headVerdict
-  passes =
+  by-passes =
       let v₄ : Verdict = fieldVerdict (countField room) (drop 46 bytes) in
       let v₃ : Verdict = fieldVerdict flagsField (drop 39 bytes) in
       let v₂ : Verdict = fieldVerdict registersField (drop 4 bytes) in

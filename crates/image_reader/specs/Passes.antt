@@ -10,7 +10,7 @@ use Rattle.model.specs.declared.Refusal.the-variants.{TrailingBytes}
 use Rattle.model.specs.declared.Verdict.{Verdict}
 use Rattle.model.specs.declared.Verdict.the-variants.{Accepted}
 use Rattle.model.specs.Refusals.{demand, _then_}
-use Rattle.image.specs.Bytes.{number, wordsIn}
+use Rattle.image.specs.Bytes.{numberIn, wordsIn}
 use Rattle.image.specs.Format.{versionField, registersField, flagsField, countField, wordsField, endField, wordsPerField, fieldsFor, spanOf}
 use Rattle.image.specs.Reading.{fieldVerdict, machineFrom}
 
@@ -21,7 +21,7 @@ pub record ByteAt (bytes : List ℕ) (at r : ℕ) : Type 0 where
 
 -- two bytes as a number, each 0 past the end
 pub record PairAt (bytes : List ℕ) (at r : ℕ) : Type 0 where
-  pub is : r ≡ number (take 2 (drop at bytes))
+  pub is : r ≡ numberIn (take 2 (drop at bytes))
   pub small : r < 65_536
 
 -- ---- what is there
@@ -38,7 +38,7 @@ imageMachine bytes = machineFrom (drop 7 bytes) (drop 42 bytes)
 
 -- M
 abbrev pub imageCount : List ℕ → ℕ
-imageCount bytes = number (take 4 (drop 49 bytes))
+imageCount bytes = numberIn (take 4 (drop 49 bytes))
 
 unfoldable pub imageMemory : (fields words : ℕ) → List ℕ → List ℕ
 imageMemory zero words bytes = []

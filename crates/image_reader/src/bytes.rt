@@ -3,7 +3,7 @@ ghost use mathlib.Core.Path.{_≡_};
 ghost use Prim.Native.Nat.{_+_, _*_, _^_, _≤_, _<_};
 ghost use lib.ListN.{length, take, drop};
 ghost use lib.Seq.{sets};
-ghost use Rattle.image.specs.Bytes.{number, wordsIn};
+ghost use Rattle.image.specs.Bytes.{numberIn, wordsIn};
 ghost use Rattle.image_reader.specs.Passes.{ByteAt, PairAt};
 
 fn byte_in(bytes: &[u8], at: usize) -> u32
@@ -35,7 +35,7 @@ pub fn pair_at(bytes: &[u8], at: usize) -> u32
 // The word from a place on: the compiler joins the four loads into one.
 fn word_in(bytes: &[u8], at: usize) -> u32
     requires { ⌜ at + 4 ≤ length (now bytes) ⌝ }
-    ensures { λ r. ⌜ r ≡ number (take 4 (drop at (now (bytes .entry)))) ⌝ }
+    ensures { λ r. ⌜ r ≡ numberIn (take 4 (drop at (now (bytes .entry)))) ⌝ }
 {
     let a = byte_in(bytes, at);
     let b = byte_in(bytes, at + 1);

@@ -22,7 +22,8 @@ use Rattle.interpreter.specs.declared.FileAnswer.{FileAnswer}
 use Rattle.interpreter.specs.declared.FileResult.{FileResult}
 use Rattle.interpreter.specs.declared.engine.Ended.{Ended}
 use Rattle.interpreter.specs.Engine.{EngineEnds}
-use Rattle.interpreter.specs.Calls.{runAnswer, runResult, runNumber, runReturned, runWords, Runs, fileEnd, fileResult, memoryEnd, fileNumber, fileReturned, fileWords, filePlaces, FileRuns}
+use Rattle.interpreter.specs.Calls.{runAnswer, runResult, runNumber, runReturned, runWords, Runs}
+use Rattle.interpreter.specs.Calls.{fileEnd, fileResult, memoryEnd, fileNumber, fileReturned, fileWords, filePlaces, FileRuns}
 
 -- ---- the run
 
@@ -38,7 +39,8 @@ module _ (memory waits : List ℕ) (start : Machine) (count : ℕ) where
   numbered Accepted r = answer-number (r .ending)
   numbered (Refused why) r = refl
 
-  as-result : (v : Verdict) → v ≡ runVerdict memory waits → {r : RunResult} {memory′ : List ℕ} → r ≡ runResult v start ran → memory′ ≡ leftBy v (ran .memory) memory
+  as-result : (v : Verdict) → v ≡ runVerdict memory waits → {r : RunResult} {memory′ : List ℕ}
+      → r ≡ runResult v start ran → memory′ ≡ leftBy v (ran .memory) memory
       → Runs memory waits start count memory′ r
   unfolding runReturned runWords
   as-result v e p q =
@@ -50,15 +52,6 @@ module _ (memory waits : List ℕ) (start : Machine) (count : ℕ) where
         number = ap (λ (r : RunResult). runNumber (r .answer)) full ∙ numbered n ran;
       }
 
-  pub run-refused : {v : Verdict} {why : Refusal} → v ≡ Refused why → v ≡ runVerdict memory waits
-      → Runs memory waits start count memory (record { answer = RunAnswer.Refused why; machine = start; ran = 0; clocks = 0 })
-  run-refused {v} {why} p e = as-result (Refused why) (sym p ∙ e) refl refl
-
-  pub run-carried : {v : Verdict} {journal memory′ journal′ : List ℕ} {e : Ended} {a : RunAnswer} → v ≡ Accepted → v ≡ runVerdict memory waits
-      → EngineEnds memory waits journal start count memory′ journal′ e → a ≡ runAnswer (e .ending)
-      → Runs memory waits start count memory′ (record { answer = a; machine = e .machine; ran = e .ran; clocks = e .clocks })
-  run-carried p e h f = as-result Accepted (sym p ∙ e) (rw (f, h .result)) (h .words)
-
   -- what a run that is carried out returns, and leaves in the memory
   module _ {r : RunResult} {memory′ : List ℕ} (v : runVerdict memory waits ≡ Accepted) (c : Runs memory waits start count memory′ r) where
     pub returned : r ≡ runResult Accepted start ran
@@ -68,6 +61,16 @@ module _ (memory waits : List ℕ) (start : Machine) (count : ℕ) where
     pub left-in : memory′ ≡ ran .memory
     unfolding runWords
     left-in = c .words ∙ ap (λ (w : Verdict). leftBy w (ran .memory) memory) v
+
+module _ {memory waits : List ℕ} {start : Machine} {count : ℕ} {v : Verdict} (e : v ≡ runVerdict memory waits) where
+  pub run-refused : {why : Refusal} → v ≡ Refused why
+      → Runs memory waits start count memory (record { answer = RunAnswer.Refused why; machine = start; ran = 0; clocks = 0 })
+  run-refused {why} p = as-result memory waits start count (Refused why) (sym p ∙ e) refl refl
+
+  pub run-carried : v ≡ Accepted → {journal memory′ journal′ : List ℕ} {d : Ended}
+      → EngineEnds memory waits journal start count memory′ journal′ d → {a : RunAnswer} → a ≡ runAnswer (d .ending)
+      → Runs memory waits start count memory′ (record { answer = a; machine = d .machine; ran = d .ran; clocks = d .clocks })
+  run-carried p h f = as-result memory waits start count Accepted (sym p ∙ e) (rw (f, h .result)) (h .words)
 
 -- ---- the file run
 
@@ -99,24 +102,28 @@ module _ (memory journal : List ℕ) (start : Machine) (count : ℕ) where
         number = ap (λ (r : FileResult). fileNumber (r .answer)) full ∙ file-numbered (fileVerdict memory journal count) filed n;
       }
 
-  pub file-refused : {v : Verdict} {why : Refusal} → v ≡ Refused why → v ≡ fileVerdict memory journal count
+module _ {memory journal : List ℕ} {start : Machine} {count : ℕ} {v : Verdict} (e : v ≡ fileVerdict memory journal count) where
+  pub file-refused : {why : Refusal} → v ≡ Refused why
       → FileRuns memory journal start count memory journal (record { answer = FileAnswer.Refused why; machine = start; ran = 0; pairs = 0 })
-  file-refused {v} {why} p e = as-file (Refused why) (sym p ∙ e) refl refl refl
+  file-refused {why} p = as-file memory journal start count (Refused why) (sym p ∙ e) refl refl refl
 
-  pub file-finished : {v : Verdict} {memory′ journal′ : List ℕ} {e : Ended} → v ≡ Accepted → v ≡ fileVerdict memory journal count
-      → EngineEnds memory [] journal start count memory′ journal′ e → e .ending ≡ Finished
-      → FileRuns memory journal start count memory′ journal′ (record { answer = FileAnswer.Finished; machine = e .machine; ran = e .ran; pairs = e .pairs })
-  file-finished p e h f =
-      let room = room-for-all memory journal count p e in
-      let g : filed .ending ≡ Finished = sym (ap (λ (e : Ended). e .ending) (h .result)) ∙ f in
-      as-file Accepted (sym p ∙ e) (rw (h .result, g)) (h .words ∙ rw g) (h .pairs room)
+  module _ (p : v ≡ Accepted) {memory′ journal′ : List ℕ} {d : Ended} (h : EngineEnds memory [] journal start count memory′ journal′ d) where
+    ended : {x : Ending} → d .ending ≡ x → filed memory journal start count .ending ≡ x
+    ended f = sym (ap (λ (d : Ended). d .ending) (h .result)) ∙ f
 
-  pub file-undone : {v : Verdict} {memory′ memory″ journal′ : List ℕ} {e : Ended} → v ≡ Accepted → v ≡ fileVerdict memory journal count
-      → EngineEnds memory [] journal start count memory′ journal′ e → e .ending ≡ Outside
-      → memory″ ≡ undone (e .pairs) journal′ memory′
-      → FileRuns memory journal start count memory″ journal′ (record { answer = FileAnswer.Undone; machine = start; ran = e .ran; pairs = e .pairs })
-  file-undone p e h f u =
-      let room = room-for-all memory journal count p e in
-      let g : filed .ending ≡ Outside = sym (ap (λ (e : Ended). e .ending) (h .result)) ∙ f in
-      let restored = rw (h .result, h .pairs room, h .words) at u in
-      as-file Accepted (sym p ∙ e) (rw (h .result, g)) ((restored ∙ back [] count (begin start memory 0) _) ∙ rw g) (h .pairs room)
+    places : journal′ ≡ overlay (journalWords (journalPairs [] count (begin start memory 0))) journal
+    places = h .pairs (room-for-all memory journal count p e)
+
+    pub file-finished : d .ending ≡ Finished
+        → FileRuns memory journal start count memory′ journal′
+        (record { answer = FileAnswer.Finished; machine = d .machine; ran = d .ran; pairs = d .pairs })
+    file-finished f =
+        as-file memory journal start count Accepted (sym p ∙ e) (rw (h .result, ended f)) (h .words ∙ rw (ended f)) places
+
+    pub file-undone : d .ending ≡ Outside → {memory″ : List ℕ} → memory″ ≡ undone (d .pairs) journal′ memory′
+        → FileRuns memory journal start count memory″ journal′
+        (record { answer = FileAnswer.Undone; machine = start; ran = d .ran; pairs = d .pairs })
+    file-undone f u =
+        let restored = rw (h .result, places, h .words) at u in
+        as-file memory journal start count Accepted (sym p ∙ e) (rw (h .result, ended f))
+        ((restored ∙ back [] count (begin start memory 0) _) ∙ rw (ended f)) places

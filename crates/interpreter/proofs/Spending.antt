@@ -52,7 +52,8 @@ module _ (waits : List ℕ) where
   -- an instruction's accesses, in the order fetch, A, B, store to memory
   pub clocked-walks : (w : Spent) (oa ob : Operand) (stored : Bool) {a b : Bool} {x : ℕ} {f g h r : Spent}
       → a ≡ inMemory oa → b ≡ inMemory ob → x ≡ costOf a b stored
-      → f ≡ moreOf waits (record { clocks = w .clocks + x; position = w .position }) → g ≡ cond a (moreOf waits f) f → h ≡ cond b (moreOf waits g) g → r ≡ cond (stored && b) (moreOf waits h) h
+      → f ≡ moreOf waits (record { clocks = w .clocks + x; position = w .position })
+      → g ≡ cond a (moreOf waits f) f → h ≡ cond b (moreOf waits g) g → r ≡ cond (stored && b) (moreOf waits h) h
       → r ≡ spentOf waits w oa ob stored
   clocked-walks w oa ob stored {a} {b} {x} p q e first with-a with-b last =
       let c = w .clocks + x in

@@ -13,7 +13,7 @@ use Rattle.model.specs.Waits.{waitAt}
 use Rattle.model.specs.Interpreter as I
 use Rattle.model.specs.Words.{overlay}
 use Rattle.model.specs.Journal.{Pair, storedBy, journalPairs, journalWords}
-use Rattle.model.specs.Packed.{packedOf, flagsOf}
+use Rattle.model.specs.Packed.{packedOf, flagsOf, packedMachine}
 use Rattle.model.proofs.Cases.{cond-true, cond-false, tells}
 use Rattle.model.proofs.Packed.{unpacks}
 use Rattle.model.proofs.Bounds.{clocks-le}
@@ -27,9 +27,10 @@ use Rattle.interpreter.specs.Engine.{endedAt, EngineEnds}
 
 -- ---- what one step says
 
-module _ {regs memory journal : List ℕ} {pairs flags : ℕ} {regs′ memory′ journal′ : List ℕ} {s : Stepped} (h : Steps regs memory journal pairs flags regs′ memory′ journal′ s) where
+module _ {regs memory journal : List ℕ} {pairs flags : ℕ} {regs′ memory′ journal′ : List ℕ} {s : Stepped}
+    (h : Steps regs memory journal pairs flags regs′ memory′ journal′ s) where
   abbrev m : Machine
-  m = I.machine regs (flagsOf flags)
+  m = packedMachine regs flags
 
   is-inside : {v : Bool} → s .inside ≡ v → I.inside memory m ≡ v
   is-inside e = sym (tells (λ (s : Stepped). s .inside) (I.inside memory m) refl refl (h .result)) ∙ e
@@ -64,7 +65,7 @@ module _ {regs memory journal : List ℕ} {pairs flags : ℕ} {regs′ memory′
     at = runAt m memory p i c
 
     advances : s .inside ≡ true → {w : Spent} → w ≡ spentOf waits (record { clocks = c; position = p }) (s .oa) (s .ob) (s .stored)
-        → I.advance waits at ≡ runAt (I.machine regs′ (flagsOf (s .flags))) memory′ (w .position) (i + 1) (w .clocks)
+        → I.advance waits at ≡ runAt (packedMachine regs′ (s .flags)) memory′ (w .position) (i + 1) (w .clocks)
     unfolding I.advance I.execute
     advances e f =
         ap (λ (t : Bool). cond t (I.execute waits at) (I.stop Outside at)) (is-inside e)
@@ -74,7 +75,9 @@ module _ {regs memory journal : List ℕ} {pairs flags : ℕ} {regs′ memory′
     unfolding I.advance
     stops e = ap (λ (t : Bool). cond t (I.execute waits at) (I.stop Outside at)) (is-inside e)
 
-    former-is : (u b : Bool) (a f g : ℕ) → _≡_ {A = List Pair} (cond (u && b) (record { address = a; former = f } ∷ []) []) (cond (u && b) (record { address = a; former = cond b f g } ∷ []) [])
+    former-is : (u b : Bool) (a f g : ℕ)
+        → _≡_ {A = List Pair} (cond (u && b) (record { address = a; former = f } ∷ []) [])
+        (cond (u && b) (record { address = a; former = cond b f g } ∷ []) [])
     former-is true true a f g = refl
     former-is true false a f g = refl
     former-is false b a f g = refl
@@ -99,101 +102,105 @@ module _ (memory₀ waits journal₀ : List ℕ) (start : Machine) (count : ℕ)
 
   -- after i instructions, all inside
   pub record At (memory journal regs : List ℕ) (flags position clocks pairs i : ℕ) : Type 0 where
-    pub state : I.interpret waits i first ≡ runAt (I.machine regs (flagsOf flags)) memory position i clocks
+    pub state : I.interpret waits i first ≡ runAt (packedMachine regs flags) memory position i clocks
     pub counted : pairs ≡ length (pairsAt i)
     pub journaled : 2 * count ≤ length journal₀ → journal ≡ overlay (journalWords (pairsAt i)) journal₀
     pub below : i ≤ count
     pub words : length memory ≡ length memory₀
     pub places : length journal ≡ length journal₀
 
-  module _ {memory journal regs : List ℕ} {flags position clocks pairs i : ℕ} (a : At memory journal regs flags position clocks pairs i) (less : i < count) where
+module _ {memory₀ waits journal₀ : List ℕ} {start : Machine} {count : ℕ} {memory journal regs : List ℕ} {flags position clocks pairs i : ℕ}
+    (a : At memory₀ waits journal₀ start count memory journal regs flags position clocks pairs i) where
+  abbrev run₀ : I.Run
+  run₀ = first memory₀ waits journal₀ start count
+
+  abbrev pairsTo : ℕ → List Pair
+  pairsTo = pairsAt memory₀ waits journal₀ start count
+
+  abbrev here : I.Run
+  here = runAt (packedMachine regs flags) memory position i clocks
+
+  module _ (less : i < count) where
     -- with waits of 16 bits and counts of 32 bits, the clocks fit 64 bits by far
     pub clocks-fit : ((p : ℕ) → waitAt waits p ≤ 65535) → count < 2 ^ 32 → clocks < 2 ^ 61
-    clocks-fit short few = omega (arith, ap (λ (r : I.Run). r .clocks) (a .state), clocks-le waits 65535 short i first)
+    clocks-fit short few = omega (arith, ap (λ (r : I.Run). r .clocks) (a .state), clocks-le waits 65535 short i run₀)
 
     module _ {regs′ memory′ journal′ : List ℕ} {s : Stepped} (h : Steps regs memory journal pairs flags regs′ memory′ journal′ s) where
-      next : I.interpret waits (i + 1) first ≡ I.advance waits (runAt (I.machine regs (flagsOf flags)) memory position i clocks)
+      next : I.interpret waits (i + 1) run₀ ≡ I.advance waits here
       unfolding I.interpret
-      next = ap (λ (n : ℕ). I.interpret waits n first) (add-one i) ∙ ap (I.advance waits) (a .state)
+      next = ap (λ (n : ℕ). I.interpret waits n run₀) (add-one i) ∙ ap (I.advance waits) (a .state)
 
-      next-pairs : pairsAt (i + 1) ≡ pairsAt i ++ storedBy (runAt (I.machine regs (flagsOf flags)) memory position i clocks)
+      next-pairs : pairsTo (i + 1) ≡ pairsTo i ++ storedBy here
       unfolding journalPairs
-      next-pairs = ap pairsAt (add-one i) ∙ ap (λ (r : I.Run). pairsAt i ++ storedBy r) (a .state)
+      next-pairs = ap pairsTo (add-one i) ∙ ap (λ (r : I.Run). pairsTo i ++ storedBy r) (a .state)
 
       pub turn : s .inside ≡ true → {w : Spent} → w ≡ spentOf waits (record { clocks = clocks; position = position }) (s .oa) (s .ob) (s .stored)
           → count < 2 ^ 32 → length memory′ ≡ length memory → length journal′ ≡ length journal
-          → At memory′ journal′ regs′ (s .flags) (w .position) (w .clocks) (s .pairs) (i + 1)
+          → At memory₀ waits journal₀ start count memory′ journal′ regs′ (s .flags) (w .position) (w .clocks) (s .pairs) (i + 1)
       turn e f few lm lj =
           let p : Pair = record { address = I.addressB memory (m h); former = I.valueB memory (m h) } in
-          let q : pairsAt (i + 1) ≡ pairsAt i ++ cond (I.storesToMemory memory (m h)) (p ∷ []) [] = next-pairs ∙ ap (λ (l : List Pair). pairsAt i ++ l) (stores h waits position i clocks e) in
-          let below : pairs < count = omega (arith, a .counted, pairs-le waits i first) in
+          let stored = I.storesToMemory memory (m h) in
+          let q : pairsTo (i + 1) ≡ pairsTo i ++ cond stored (p ∷ []) [] =
+          next-pairs ∙ ap (λ (l : List Pair). pairsTo i ++ l) (stores h waits position i clocks e) in
+          let below : pairs < count = omega (arith, a .counted, pairs-le waits i run₀) in
           record {
             state = next ∙ advances h waits position i clocks e f;
-            counted = ap (λ (s : Stepped). s .pairs) (is-stepped h e) ∙ noted-length (pairsAt i) p pairs (a .counted) (omega arith) (I.storesToMemory memory (m h)) ∙ ap length (sym q);
-            journaled = λ room. next-places h e ∙ noted-words (pairsAt i) p pairs (a .counted) journal journal₀ (omega arith) (a .journaled room) (I.storesToMemory memory (m h)) ∙ ap (λ (l : List Pair). overlay (journalWords l) journal₀) (sym q);
+            counted =
+                ap (λ (s : Stepped). s .pairs) (is-stepped h e) ∙ noted-length (pairsTo i) p pairs (a .counted) (omega arith) stored
+                ∙ ap length (sym q);
+            journaled =
+                λ room.
+                next-places h e ∙ noted-words (pairsTo i) p pairs (a .counted) journal journal₀ (omega arith) (a .journaled room) stored
+                ∙ ap (λ (l : List Pair). overlay (journalWords l) journal₀) (sym q);
             below = omega arith;
             words = lm ∙ a .words;
             places = lj ∙ a .places;
           }
 
-      outside : s .inside ≡ false → {ended : Ended} → ended ≡ endedAt Outside (I.machine regs′ (flagsOf flags)) i clocks pairs
+      pub outside : s .inside ≡ false → {ended : Ended} → ended ≡ endedAt Outside (packedMachine regs′ flags) i clocks pairs
           → EngineEnds memory₀ waits journal₀ start count memory′ journal′ ended
       unfolding I.stop
       outside e g =
-          let stopped : I.interpret waits (i + 1) first ≡ I.stop Outside (runAt (I.machine regs (flagsOf flags)) memory position i clocks) = next ∙ stops h waits position i clocks e in
-          let out : I.interpret waits (i + 1) first .ending ≡ Outside = ap (λ (r : I.Run). r .ending) stopped in
-          let ran : I.interpret waits count first ≡ I.stop Outside (runAt (I.machine regs (flagsOf flags)) memory position i clocks) = outside-stays waits first (omega arith) out ∙ stopped in
-          let same : pairsAt count ≡ pairsAt i = outside-pairs waits first (omega arith) out ∙ next-pairs ∙ ap (λ (l : List Pair). pairsAt i ++ l) (stores-none h waits position i clocks e) ∙ append-nil (pairsAt i) in
+          let stopped : I.interpret waits (i + 1) run₀ ≡ I.stop Outside here = next ∙ stops h waits position i clocks e in
+          let out : I.interpret waits (i + 1) run₀ .ending ≡ Outside = ap (λ (r : I.Run). r .ending) stopped in
+          let ran : I.interpret waits count run₀ ≡ I.stop Outside here = outside-stays waits run₀ (omega arith) out ∙ stopped in
+          let same : pairsTo count ≡ pairsTo i =
+          outside-pairs waits run₀ (omega arith) out ∙ next-pairs
+          ∙ ap (λ (l : List Pair). pairsTo i ++ l) (stores-none h waits position i clocks e) ∙ append-nil (pairsTo i) in
           record {
             result = rw (g, ran, same, same-regs h e, a .counted);
             words = rw (ran, same-words h e);
             pairs = λ room. same-places h e ∙ a .journaled room ∙ ap (λ (l : List Pair). overlay (journalWords l) journal₀) (sym same);
           }
 
-  finished : {memory journal regs : List ℕ} {flags position clocks pairs i : ℕ} → At memory journal regs flags position clocks pairs i → count ≤ i
-      → {ended : Ended} → ended ≡ endedAt Finished (I.machine regs (flagsOf flags)) i clocks pairs
+  pub finished : count ≤ i → {ended : Ended} → ended ≡ endedAt Finished (packedMachine regs flags) i clocks pairs
       → EngineEnds memory₀ waits journal₀ start count memory journal ended
-  finished {memory} {journal} {regs} {flags} {position} {clocks} {pairs} {i} a h g =
+  finished h g =
       let e : count ≡ i = omega (arith, a .below) in
       record {
         result = rw (g, e, a .state, a .counted);
         words = rw (e, a .state);
-        pairs = λ room. a .journaled room ∙ ap (λ (n : ℕ). overlay (journalWords (pairsAt n)) journal₀) (sym e);
+        pairs = λ room. a .journaled room ∙ ap (λ (n : ℕ). overlay (journalWords (pairsTo n)) journal₀) (sym e);
       }
 
 -- ---- from the packed flags of a start
 
-abbrev pub unpackedStart : Machine → ℕ → Machine
-unpackedStart start flags = I.machine (start .regs) (flagsOf flags)
+pub begins : {memory waits journal regs : List ℕ} {flags count : ℕ}
+    → At memory waits journal (packedMachine regs flags) count memory journal regs flags 0 0 0 0
+unfolding I.interpret journalPairs journalWords
+begins =
+    record {
+      state = refl;
+      counted = refl;
+      journaled = λ _. refl;
+      below = omega arith;
+      words = refl;
+      places = refl;
+    }
 
-module _ (memory waits journal : List ℕ) (start : Machine) (count : ℕ) {flags₀ : ℕ} (packs : flags₀ ≡ packedOf (start .flags)) where
-  same-start : unpackedStart start flags₀ ≡ start
-  same-start = rw (packs, unpacks (start .flags))
-
-  pub begins : At memory waits journal (unpackedStart start flags₀) count memory journal (start .regs) flags₀ 0 0 0 0
-  unfolding I.interpret journalPairs journalWords
-  begins =
-      record {
-        state = refl;
-        counted = refl;
-        journaled = λ _. refl;
-        below = omega arith;
-        words = refl;
-        places = refl;
-      }
-
-  from-start : {memory′ journal′ : List ℕ} {e : Ended} → EngineEnds memory waits journal (unpackedStart start flags₀) count memory′ journal′ e → EngineEnds memory waits journal start count memory′ journal′ e
-  from-start {memory′} {journal′} {e} h = subst (λ (s : Machine). EngineEnds memory waits journal s count memory′ journal′ e) same-start h
-
-  pub ends-outside : {words places regs : List ℕ} {flags position clocks pairs i : ℕ}
-      → At memory waits journal (unpackedStart start flags₀) count words places regs flags position clocks pairs i → i < count
-      → {regs′ memory′ journal′ : List ℕ} {s : Stepped} → Steps regs words places pairs flags regs′ memory′ journal′ s
-      → s .inside ≡ false → {ended : Ended} → ended ≡ endedAt Outside (I.machine regs′ (flagsOf flags)) i clocks pairs
-      → EngineEnds memory waits journal start count memory′ journal′ ended
-  ends-outside a less h e g = from-start (outside memory waits journal (unpackedStart start flags₀) count a less h e g)
-
-  pub ends-finished : {words places regs : List ℕ} {flags position clocks pairs i : ℕ}
-      → At memory waits journal (unpackedStart start flags₀) count words places regs flags position clocks pairs i → count ≤ i
-      → {ended : Ended} → ended ≡ endedAt Finished (I.machine regs (flagsOf flags)) i clocks pairs
-      → EngineEnds memory waits journal start count words places ended
-  ends-finished a h g = from-start (finished memory waits journal (unpackedStart start flags₀) count a h g)
+pub from-start : {memory waits journal : List ℕ} {start : Machine} {flags count : ℕ} {memory′ journal′ : List ℕ} {e : Ended}
+    → flags ≡ packedOf (start .flags) → EngineEnds memory waits journal (packedMachine (start .regs) flags) count memory′ journal′ e
+    → EngineEnds memory waits journal start count memory′ journal′ e
+from-start {memory} {waits} {journal} {start} {flags} {count} {memory′} {journal′} {e} packs h =
+    let same : packedMachine (start .regs) flags ≡ start = rw (packs, unpacks (start .flags)) in
+    subst (λ (s : Machine). EngineEnds memory waits journal s count memory′ journal′ e) same h

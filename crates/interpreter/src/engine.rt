@@ -8,8 +8,7 @@ use model::Ending;
 use model::Machine;
 use step::step;
 ghost use mathlib.Core.Path.{_≡_};
-ghost use Rattle.model.specs.Interpreter.{machine};
-ghost use Rattle.model.specs.Packed.{flagsOf};
+ghost use Rattle.model.specs.Packed.{packedMachine};
 ghost use Rattle.interpreter.specs.Engine.{endedAt, EngineEnds};
 
 // A run at its end, with the number of its journal pairs.
@@ -23,7 +22,7 @@ pub struct Ended {
 
 // The loop's locals put together.
 fn run_end(ending: Ending, regs: [u32; 8], bits: u32, ran: u32, clocks: u64, pairs: u32) -> Ended
-    ensures { λ r. ⌜ r ≡ endedAt ending (machine regs (flagsOf bits)) ran clocks pairs ⌝ }
+    ensures { λ r. ⌜ r ≡ endedAt ending (packedMachine regs bits) ran clocks pairs ⌝ }
 {
     let flags = unpacked(bits);
     Ended {

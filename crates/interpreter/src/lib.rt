@@ -8,8 +8,8 @@ use model::Ending;
 use model::Machine;
 use model::Refusal;
 use model::Verdict;
-use refusals::file_verdict;
-use refusals::run_verdict;
+use verdicts::file_verdict;
+use verdicts::run_verdict;
 ghost use mathlib.Core.Path.{_≡_};
 ghost use Rattle.interpreter.specs.Calls.{runAnswer, Runs, FileRuns};
 
@@ -53,7 +53,7 @@ fn run_answer(ending: Ending) -> RunAnswer
 pub fn run(memory: &mut [u32], waits: &[u16], start: Machine, count: u32) -> RunResult
     ensures { λ r. ⌜ Runs (now (memory .entry)) (now (waits .entry)) start count (now (memory .exit)) r ⌝ }
 {
-    match run_verdict(&memory[..], waits) {
+    match run_verdict(&*memory, waits) {
         Verdict::Refused(why) => RunResult {
             answer: RunAnswer::Refused(why),
             machine: start,
@@ -80,7 +80,7 @@ pub fn run(memory: &mut [u32], waits: &[u16], start: Machine, count: u32) -> Run
 pub fn file_run(memory: &mut [u32], journal: &mut [u32], start: Machine, count: u32) -> FileResult
     ensures { λ r. ⌜ FileRuns (now (memory .entry)) (now (journal .entry)) start count (now (memory .exit)) (now (journal .exit)) r ⌝ }
 {
-    match file_verdict(&memory[..], &journal[..], count) {
+    match file_verdict(&*memory, &*journal, count) {
         Verdict::Refused(why) => FileResult {
             answer: FileAnswer::Refused(why),
             machine: start,
@@ -102,7 +102,7 @@ pub fn file_run(memory: &mut [u32], journal: &mut [u32], start: Machine, count: 
                     }
                 }
                 Ending::Outside => {
-                    undo(&mut *memory, &journal[..], e.pairs);
+                    undo(&mut *memory, &*journal, e.pairs);
                     FileResult {
                         answer: FileAnswer::Undone,
                         machine: start,

@@ -33,11 +33,14 @@ unfolding undone journalWords
 last-pair ps p rest memory =
     let k : length (ps ++ (p ∷ [])) ≡ suc (length ps) = length-append ps (p ∷ []) ∙ add-one (length ps) in
     let tail : List ℕ = p .address ∷ p .former ∷ rest in
-    let w : journalWords (ps ++ (p ∷ [])) ++ rest ≡ journalWords ps ++ tail = ap (λ (l : List ℕ). l ++ rest) (words-append ps (p ∷ [])) ∙ append-assoc (journalWords ps) _ rest in
+    let w : journalWords (ps ++ (p ∷ [])) ++ rest ≡ journalWords ps ++ tail =
+    ap (λ (l : List ℕ). l ++ rest) (words-append ps (p ∷ [])) ∙ append-assoc (journalWords ps) _ rest in
     let l : 2 * length ps ≡ length (journalWords ps) + 0 = omega (arith, words-length ps) in
     let m : 2 * length ps + 1 ≡ length (journalWords ps) + 1 = omega (arith, words-length ps) in
-    let x : wordAt (journalWords ps ++ tail) (2 * length ps) ≡ p .address = ap (wordAt (journalWords ps ++ tail)) l ∙ getD-append-add (journalWords ps) tail 0 0 in
-    let y : wordAt (journalWords ps ++ tail) (2 * length ps + 1) ≡ p .former = ap (wordAt (journalWords ps ++ tail)) m ∙ getD-append-add (journalWords ps) tail 1 0 in
+    let x : wordAt (journalWords ps ++ tail) (2 * length ps) ≡ p .address =
+    ap (wordAt (journalWords ps ++ tail)) l ∙ getD-append-add (journalWords ps) tail 0 0 in
+    let y : wordAt (journalWords ps ++ tail) (2 * length ps + 1) ≡ p .former =
+    ap (wordAt (journalWords ps ++ tail)) m ∙ getD-append-add (journalWords ps) tail 1 0 in
     ap₂ (λ (i : ℕ) (j : List ℕ). undone i j memory) k w
     ∙ ap₂ (λ (a f : ℕ). undone (length ps) (journalWords ps ++ tail) (storeWord memory a f)) x y
 

@@ -18,9 +18,9 @@ example : runText (begin clearedMachine (0x0001_0021 ∷ 0x0005_0421 ∷ []) 0)
 unfolding field bit operandA operandB signedOf leaves sumOf differenceOf halvedOf answers aluAt aluOf isMove operation alu flagsAfter stores waitAt nextPosition waitSum positionAfter execute stop advance interpret digits digitCount heading line lineBetween lines endingText runText
 example = refl
 
-cut : refusedText CutImage ≡ letters "refused 8\n"
+cut-image : refusedText CutImage ≡ letters "refused 8\n"
 unfolding digits digitCount refusedText
-cut = refl
+cut-image = refl
 
 trailing : refusedText TrailingBytes ≡ letters "refused 15\n"
 unfolding digits digitCount refusedText

@@ -1,4 +1,4 @@
--- The ledger's text as a list of bytes: what document 01, "The ledger program", has printed for an image.
+-- The ledger's text as a list of bytes: what is printed for an image. Document 01, "The ledger program".
 use Prim.Native.Nat.{ℕ, zero, suc, _-_}
 use mathlib.Core.List.{List, [], _∷_, _++_}
 use Rattle.model.specs.declared.Flags.{Flags}

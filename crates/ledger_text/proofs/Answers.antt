@@ -1,5 +1,5 @@
 -- What `report` answers: for an output that is too short, for a bad image, and for one that is run.
-use Prim.Native.Nat.{ℕ, _+_, _≤_, _<_}
+use Prim.Native.Nat.{ℕ, _≤_, _<_}
 use mathlib.Core.Path.{_≡_, refl, sym, ap, _∙_}
 use mathlib.Core.Bool.{Bool, true, false, cond}
 use mathlib.Core.List.{List, _++_}
@@ -23,7 +23,7 @@ use Rattle.ledger_text.specs.declared.ReportAnswer.{ReportAnswer}
 use Rattle.ledger_text.specs.Parts.{Extends, RunPuts}
 use Rattle.ledger_text.specs.Report.{ledgerWords, roomy, Reports}
 
-module _ (bytes memory out : List ℕ) where
+module _ {bytes memory out : List ℕ} where
   pub report-no-room : length out < longestText → Reports bytes memory out memory out ReportAnswer.NoRoom
   report-no-room h =
       let e = lt-leb longestText (length out) h in
@@ -44,51 +44,53 @@ module _ (bytes memory out : List ℕ) where
         words = rw (e, is) words;
       }
 
-  module _ {memory₁ : List ℕ} {r : ReadResult} (h : Reads bytes memory memory₁ r) where
-    is-refused : (why : Refusal) → r .answer ≡ ReadAnswer.Refused why → (o : Outcome) → readOf bytes (length memory) ≡ o
-        → (o ≡ refused why) × (memory₁ ≡ memory)
-    unfolding readReturned readWords
-    is-refused why e (loaded version machine words) is = let k : r ≡ readResult (loaded version machine words) = h .result ∙ ap readResult is in (cc, cc)
-    is-refused why e (refused w) is =
-        let k : r ≡ readResult (refused w) = h .result ∙ ap readResult is in
-        (cc, h .words ∙ ap (λ (o : Outcome). outcomeWords o memory) is)
+module _ {bytes memory memory₁ : List ℕ} {r : ReadResult} (h : Reads bytes memory memory₁ r) where
+  is-refused : {why : Refusal} → r .answer ≡ ReadAnswer.Refused why → (o : Outcome) → readOf bytes (length memory) ≡ o
+      → (o ≡ refused why) × (memory₁ ≡ memory)
+  unfolding readReturned readWords
+  is-refused e (loaded version machine words) is =
+      let k : r ≡ readResult (loaded version machine words) = h .result ∙ ap readResult is in
+      (cc, cc)
+  is-refused e (refused w) is =
+      let k : r ≡ readResult (refused w) = h .result ∙ ap readResult is in
+      (cc, h .words ∙ ap (λ (o : Outcome). outcomeWords o memory) is)
 
-    -- a bad image
-    pub report-refused : {out′ : List ℕ} {q : ℕ} (why : Refusal) → r .answer ≡ ReadAnswer.Refused why → longestText ≤ length out
-        → Extends out 0 (refusedText why) out′ q → Reports bytes memory out memory₁ out′ (ReportAnswer.Text q)
-    report-refused why e room put =
-        let k = is-refused why e (readOf bytes (length memory)) refl in
-        reported (refused why) (k .0) room put (k .1)
+  -- a bad image
+  pub report-refused : {out out′ : List ℕ} {q : ℕ} {why : Refusal} → r .answer ≡ ReadAnswer.Refused why → longestText ≤ length out
+      → Extends out 0 (refusedText why) out′ q → Reports bytes memory out memory₁ out′ (ReportAnswer.Text q)
+  report-refused {why = why} e room put =
+      let k = is-refused e (readOf bytes (length memory)) refl in
+      reported (refused why) (k .0) room put (k .1)
 
-    -- an image that is run
-    module _ (count : ℕ) (e : r .answer ≡ ReadAnswer.Loaded count) (kept : length memory₁ ≡ length memory) where
-      l : Loads bytes memory memory₁ r count
-      l = loads h e
+  -- an image that is run
+  module _ {count : ℕ} (e : r .answer ≡ ReadAnswer.Loaded count) (kept : length memory₁ ≡ length memory) where
+    l : Loads bytes memory memory₁ r count
+    l = loads h e
 
-      pub within : count ≤ length memory₁
-      within =
-          let w = l .words in
-          omega (arith, ap length (l .whole), length-append w (drop (length w) memory), length-drop (length w) memory, l .long, kept)
+    pub within : count ≤ length memory₁
+    within =
+        let w = l .words in
+        omega (arith, ap length (l .whole), length-append w (drop (length w) memory), length-drop (length w) memory, l .long, kept)
 
-      first : take count memory₁ ≡ l .words
-      first = first-words l
+    first : take count memory₁ ≡ l .words
+    first = first-words l
 
-      after : drop count memory₁ ≡ drop count memory
-      after =
-          ap (drop count) (l .whole)
-          ∙ drop-at (l .words) (drop (length (l .words)) memory) count (l .long)
-          ∙ ap (λ (k : ℕ). drop k memory) (l .long)
+    after : drop count memory₁ ≡ drop count memory
+    after =
+        ap (drop count) (l .whole)
+        ∙ drop-at (l .words) (drop (length (l .words)) memory) count (l .long)
+        ∙ ap (λ (k : ℕ). drop k memory) (l .long)
 
-      pub runs : (0 < length (take count memory₁)) × (length (take count memory₁) ≤ mostWords)
-      runs = rw first (loaded-fits (length memory) (l .version) (r .machine) (l .words) bytes (l .is))
+    pub runs : (0 < length (take count memory₁)) × (length (take count memory₁) ≤ mostWords)
+    runs = rw first (loaded-fits (length memory) (l .version) (r .machine) (l .words) bytes (l .is))
 
-      pub report-carried : {part out′ : List ℕ} {q : ℕ} → longestText ≤ length out → RunPuts (r .machine) (take count memory₁) out part out′ q
-          → length part ≡ length (take count memory₁) → Reports bytes memory out (part ++ drop count memory₁) out′ (ReportAnswer.Text q)
-      report-carried {part} room run same =
-          let run′ = rw first at run in
-          let size : length part ≡ count = same ∙ ap length first ∙ l .long in
-          reported (loaded (l .version) (r .machine) (l .words)) (l .is) room (run′ .text)
-          (ap (λ (x : List ℕ). part ++ x) (after ∙ ap (λ (k : ℕ). drop k memory) (sym size)) ∙ ap (λ (x : List ℕ). overlay x memory) (run′ .words))
+    pub report-carried : {out part out′ : List ℕ} {q : ℕ} → longestText ≤ length out → RunPuts (r .machine) (take count memory₁) out part out′ q
+        → length part ≡ length (take count memory₁) → Reports bytes memory out (part ++ drop count memory₁) out′ (ReportAnswer.Text q)
+    report-carried {part = part} room run same =
+        let run′ = rw first at run in
+        let size : length part ≡ count = same ∙ ap length first ∙ l .long in
+        reported (loaded (l .version) (r .machine) (l .words)) (l .is) room (run′ .text)
+        (ap (λ (x : List ℕ). part ++ x) (after ∙ ap (λ (k : ℕ). drop k memory) (sym size)) ∙ ap (λ (x : List ℕ). overlay x memory) (run′ .words))
 
 -- a text that is answered is within the output
 pub text-within : {bytes memory out memory′ out′ : List ℕ} {r : ReportAnswer} → Reports bytes memory out memory′ out′ r

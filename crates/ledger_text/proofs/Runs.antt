@@ -16,8 +16,8 @@ use Rattle.ledger_lines.specs.Lines.{mostLines, line, lineBetween, lines, headi
 -- ---- one instruction more
 
 -- a run of one instruction
-abbrev pub one : Machine → List ℕ → Run
-one m memory = interpret [] 1 (begin m memory 0)
+abbrev pub oneRun : Machine → List ℕ → Run
+oneRun m memory = interpret [] 1 (begin m memory 0)
 
 module _ (m : Machine) (memory : List ℕ) (ran clocks : ℕ) where
   abbrev here : Run
@@ -26,7 +26,7 @@ module _ (m : Machine) (memory : List ℕ) (ran clocks : ℕ) where
   abbrev alone : Run
   alone = begin m memory 0
 
-  goes : (one m memory .ran ≡ 0 → ⊥) → advance [] here ≡ runAt (one m memory .machine) (one m memory .memory) 0 (ran + 1) (clocks + one m memory .clocks)
+  goes : (oneRun m memory .ran ≡ 0 → ⊥) → advance [] here ≡ runAt (oneRun m memory .machine) (oneRun m memory .memory) 0 (ran + 1) (clocks + oneRun m memory .clocks)
   unfolding interpret advance execute stop
   goes =
       one-more [] (λ (o : Run). (o .ran ≡ 0 → ⊥) → advance [] here ≡ runAt (o .machine) (o .memory) 0 (ran + 1) (clocks + o .clocks)) alone
@@ -34,7 +34,7 @@ module _ (m : Machine) (memory : List ℕ) (ran clocks : ℕ) where
       (λ _ _ ne. absurd (ne refl))
       (λ e _. cc)
 
-  pub stops : one m memory .ran ≡ 0 → (advance [] here ≡ stop Outside here) × (one m memory .memory ≡ memory)
+  pub stops : oneRun m memory .ran ≡ 0 → (advance [] here ≡ stop Outside here) × (oneRun m memory .memory ≡ memory)
   unfolding interpret advance execute stop
   stops =
       one-more [] (λ (o : Run). o .ran ≡ 0 → (advance [] here ≡ stop Outside here) × (o .memory ≡ memory)) alone
@@ -61,42 +61,42 @@ module _ (start : Run) where
       ∙ append-nil (lines n start))
 
   module _ {m : Machine} {memory : List ℕ} {n clocks : ℕ} (at : interpret [] n start ≡ runAt m memory 0 n clocks) where
-    after : (one m memory .ran ≡ 0 → ⊥)
-        → interpret [] (suc n) start ≡ runAt (one m memory .machine) (one m memory .memory) 0 (n + 1) (clocks + one m memory .clocks)
+    after : (oneRun m memory .ran ≡ 0 → ⊥)
+        → interpret [] (suc n) start ≡ runAt (oneRun m memory .machine) (oneRun m memory .memory) 0 (n + 1) (clocks + oneRun m memory .clocks)
     unfolding interpret
     after ne = ap (advance []) at ∙ goes m memory n clocks ne
 
-    pub next-run : (one m memory .ran ≡ 0 → ⊥)
-        → interpret [] (n + 1) start ≡ runAt (one m memory .machine) (one m memory .memory) 0 (n + 1) (clocks + one m memory .clocks)
+    pub next-run : (oneRun m memory .ran ≡ 0 → ⊥)
+        → interpret [] (n + 1) start ≡ runAt (oneRun m memory .machine) (oneRun m memory .memory) 0 (n + 1) (clocks + oneRun m memory .clocks)
     next-run ne = ap (λ (i : ℕ). interpret [] i start) (add-one n) ∙ after ne
 
-    pub next-lines : (one m memory .ran ≡ 0 → ⊥)
+    pub next-lines : (oneRun m memory .ran ≡ 0 → ⊥)
         → lines (n + 1) start
-        ≡ lines n start ++ line (n + 1) (pc memory m) (instruction memory m) (one m memory .clocks) (one m memory .machine .flags)
+        ≡ lines n start ++ line (n + 1) (pc memory m) (instruction memory m) (oneRun m memory .clocks) (oneRun m memory .machine .flags)
     unfolding lines lineBetween
     next-lines ne =
-        let k = one m memory .clocks in
+        let k = oneRun m memory .clocks in
         let own : clocks + k - clocks ≡ k = omega arith in
         ap (λ (i : ℕ). lines i start) (add-one n)
         ∙ ap (λ (l : List ℕ). lines n start ++ l)
-        (ap₂ lineBetween at (after ne) ∙ ap (λ (c : ℕ). line (n + 1) (pc memory m) (instruction memory m) c (one m memory .machine .flags)) own)
+        (ap₂ lineBetween at (after ne) ∙ ap (λ (c : ℕ). line (n + 1) (pc memory m) (instruction memory m) c (oneRun m memory .machine .flags)) own)
 
-    last-run : one m memory .ran ≡ 0 → interpret [] (suc n) start ≡ stop Outside (runAt m memory 0 n clocks)
+    last-run : oneRun m memory .ran ≡ 0 → interpret [] (suc n) start ≡ stop Outside (runAt m memory 0 n clocks)
     unfolding interpret
     last-run e = ap (advance []) at ∙ stops m memory n clocks e .0
 
-    last-lines : one m memory .ran ≡ 0 → lines (suc n) start ≡ lines n start
+    last-lines : oneRun m memory .ran ≡ 0 → lines (suc n) start ≡ lines n start
     unfolding lines lineBetween stop
     last-lines e = ap₂ (λ (a b : Run). lines n start ++ lineBetween a b) at (last-run e) ∙ append-nil (lines n start)
 
-    is-outside : one m memory .ran ≡ 0 → interpret [] (suc n) start .ending ≡ Outside
+    is-outside : oneRun m memory .ran ≡ 0 → interpret [] (suc n) start .ending ≡ Outside
     unfolding stop
     is-outside e = ap (λ (r : Run). r .ending) (last-run e)
 
-    pub outside-run : n < mostLines → one m memory .ran ≡ 0 → interpret [] mostLines start ≡ stop Outside (runAt m memory 0 n clocks)
+    pub outside-run : n < mostLines → oneRun m memory .ran ≡ 0 → interpret [] mostLines start ≡ stop Outside (runAt m memory 0 n clocks)
     outside-run h e = outside-stays [] start h (is-outside e) ∙ last-run e
 
-    pub outside-text : n < mostLines → one m memory .ran ≡ 0 → heading ++ lines n start ++ endingText (endingWord Outside) n clocks ≡ runText start
+    pub outside-text : n < mostLines → oneRun m memory .ran ≡ 0 → heading ++ lines n start ++ endingText (endingWord Outside) n clocks ≡ runText start
     unfolding runText stop
     outside-text h e =
         sym
@@ -108,5 +108,5 @@ module _ (start : Run) where
     unfolding runText
     finished-text e =
         sym
-        (ap (λ (i : ℕ). heading ++ lines i start ++ endingText (endingWord (interpret [] i start .ending)) (interpret [] i start .ran) (interpret [] i start .clocks)) (sym e)
+        (ap (λ (i : ℕ). let r = interpret [] i start in heading ++ lines i start ++ endingText (endingWord (r .ending)) (r .ran) (r .clocks)) (sym e)
         ∙ ap (λ (r : Run). heading ++ lines n start ++ endingText (endingWord (r .ending)) (r .ran) (r .clocks)) at)

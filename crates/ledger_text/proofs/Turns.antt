@@ -7,7 +7,7 @@ use lib.ListN.{length}
 use Rattle.model.specs.declared.Machine.{Machine}
 use Rattle.model.specs.declared.Ending.the-variants.{Finished, Outside}
 use Rattle.model.specs.declared.Verdict.the-variants.{Accepted}
-use Rattle.model.specs.Refusals.{mostWords}
+use Rattle.model.specs.Refusals.{mostWords, runVerdict}
 use Rattle.model.specs.Interpreter.{Run, pc, instruction, begin, stop, interpret}
 use Rattle.model.proofs.Runs.{runAt}
 use Rattle.model.proofs.Verdicts.{run-accepted}
@@ -17,10 +17,10 @@ use Rattle.interpreter.proofs.Answers.{returned, left-in}
 use Rattle.ledger_lines.specs.Lines.{mostLines, line, lines, heading, endingText, endingWord}
 use Rattle.ledger_lines.proofs.Lengths.{clocks-small, lines-length}
 use Rattle.ledger_text.specs.Parts.{Extends, RunPuts}
-use Rattle.ledger_text.proofs.Parts.{_▸_}
-use Rattle.ledger_text.proofs.Runs.{one, stops, next-run, next-lines, outside-run, outside-text, finished-text}
+use Rattle.ledger_text.proofs.Parts.{_⊳_}
+use Rattle.ledger_text.proofs.Runs.{oneRun, stops, next-run, next-lines, outside-run, outside-text, finished-text}
 
--- ---- the loop, from a buffer that holds the header
+-- ---- the loop, from a buffer that holds the heading
 
 module _ (start : Machine) (memory₀ out₀ : List ℕ) (at₀ : ℕ) where
   abbrev first : Run
@@ -34,7 +34,8 @@ module _ (start : Machine) (memory₀ out₀ : List ℕ) (at₀ : ℕ) where
     pub words : length memory ≡ length memory₀
     pub room : length out ≡ length out₀
 
-  pub begins : At memory₀ out₀ start at₀ 0 0
+module _ {start : Machine} {memory₀ out₀ : List ℕ} {at₀ : ℕ} where
+  pub begins : At start memory₀ out₀ at₀ memory₀ out₀ start at₀ 0 0
   unfolding interpret lines
   begins =
       record {
@@ -45,20 +46,26 @@ module _ (start : Machine) (memory₀ out₀ : List ℕ) (at₀ : ℕ) where
         room = refl;
       }
 
-  module _ {memory out : List ℕ} {machine : Machine} {at ran clocks : ℕ} (a : At memory out machine at ran clocks) where
+  module _ {memory out : List ℕ} {machine : Machine} {at ran clocks : ℕ} (a : At start memory₀ out₀ at₀ memory out machine at ran clocks) where
+    abbrev run₀ : Run
+    run₀ = begin start memory₀ 0
+
     pub at-small : at ≤ at₀ + 480
     at-small = omega (arith, a .text .place, lines-length start memory₀ ran (omega (arith, a .below)), a .below)
 
     clocks-so-far : clocks ≤ 176
-    clocks-so-far = omega (arith, ap (λ (x : Run). x .clocks) (a .state), clocks-small ran first, a .below)
+    clocks-so-far = omega (arith, ap (λ (x : Run). x .clocks) (a .state), clocks-small ran run₀, a .below)
 
     module _ {memory′ : List ℕ} {r : RunResult} (h : Runs memory [] machine 1 memory′ r)
-        (some : 0 < length memory) (most : length memory ≤ mostWords) where
-      now-is : r ≡ runResult Accepted machine (one machine memory)
-      now-is = returned memory [] machine 1 (run-accepted memory some most) h
+        (fits : (0 < length memory₀) × (length memory₀ ≤ mostWords)) where
+      accepted : runVerdict memory [] ≡ Accepted
+      accepted = run-accepted memory (omega (arith, a .words)) (omega (arith, a .words))
 
-      words-are : memory′ ≡ one machine memory .memory
-      words-are = left-in memory [] machine 1 (run-accepted memory some most) h
+      now-is : r ≡ runResult Accepted machine (oneRun machine memory)
+      now-is = returned memory [] machine 1 accepted h
+
+      words-are : memory′ ≡ oneRun machine memory .memory
+      words-are = left-in memory [] machine 1 accepted h
 
       pub clocks-fit : clocks + r .clocks ≤ 200
       clocks-fit =
@@ -70,15 +77,15 @@ module _ (start : Machine) (memory₀ out₀ : List ℕ) (at₀ : ℕ) where
           )
 
       -- one line more
-      pub turn : {out′ : List ℕ} {at′ word : ℕ} → (r .ran ≡ 0 → ⊥) → ran < mostLines → length memory′ ≡ length memory → length out′ ≡ length out
-          → word ≡ instruction memory machine
+      pub turn : {out′ : List ℕ} {at′ word : ℕ} → (r .ran ≡ 0 → ⊥) → ran < mostLines
+          → length memory′ ≡ length memory → length out′ ≡ length out → word ≡ instruction memory machine
           → Extends out at (line (ran + 1) (pc memory machine) word (r .clocks) (r .machine .flags)) out′ at′
-          → At memory′ out′ (r .machine) at′ (ran + 1) (clocks + r .clocks)
+          → At start memory₀ out₀ at₀ memory′ out′ (r .machine) at′ (ran + 1) (clocks + r .clocks)
       turn went less same same-room word-is put =
-          let goes : one machine memory .ran ≡ 0 → ⊥ = λ e. went (ap (λ (x : RunResult). x .ran) now-is ∙ e) in
+          let goes : oneRun machine memory .ran ≡ 0 → ⊥ = λ e. went (ap (λ (x : RunResult). x .ran) now-is ∙ e) in
           record {
-            state = next-run first (a .state) goes ∙ rw (now-is, words-are);
-            text = rw (next-lines first (a .state) goes) (a .text ▸ (rw (now-is, word-is) at put));
+            state = next-run run₀ (a .state) goes ∙ rw (now-is, words-are);
+            text = rw (next-lines run₀ (a .state) goes) (a .text ⊳ (rw (now-is, word-is) at put));
             below = omega arith;
             words = same ∙ a .words;
             room = same-room ∙ a .room;
@@ -89,13 +96,13 @@ module _ (start : Machine) (memory₀ out₀ : List ℕ) (at₀ : ℕ) where
           → Extends out at (endingText (endingWord Outside) ran clocks) out′ q → RunPuts start memory₀ out₋ memory′ out′ q
       unfolding stop
       outside none less top put =
-          let stays : one machine memory .ran ≡ 0 = sym (ap (λ (x : RunResult). x .ran) now-is) ∙ none in
+          let stays : oneRun machine memory .ran ≡ 0 = sym (ap (λ (x : RunResult). x .ran) now-is) ∙ none in
           record {
-            text = rw (outside-text first (a .state) less stays) at (top ▸ a .text ▸ put);
+            text = rw (outside-text run₀ (a .state) less stays) at (top ⊳ a .text ⊳ put);
             words =
                 words-are
                 ∙ stops machine memory ran clocks stays .1
-                ∙ sym (ap (λ (x : Run). x .memory) (outside-run first (a .state) less stays));
+                ∙ sym (ap (λ (x : Run). x .memory) (outside-run run₀ (a .state) less stays));
           }
 
     -- all instructions ran
@@ -104,6 +111,6 @@ module _ (start : Machine) (memory₀ out₀ : List ℕ) (at₀ : ℕ) where
     finished most top put =
         let all : ran ≡ mostLines = omega (arith, a .below) in
         record {
-          text = rw (finished-text first (a .state) all) at (top ▸ a .text ▸ put);
-          words = sym (ap (λ (x : Run). x .memory) (a .state)) ∙ ap (λ (n : ℕ). interpret [] n first .memory) all;
+          text = rw (finished-text run₀ (a .state) all) at (top ⊳ a .text ⊳ put);
+          words = sym (ap (λ (x : Run). x .memory) (a .state)) ∙ ap (λ (n : ℕ). interpret [] n run₀ .memory) all;
         }

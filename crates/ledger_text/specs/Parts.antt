@@ -1,5 +1,5 @@
--- Parts of a text put into a buffer one after the other, and a run's whole text: what the code's functions leave of what document 01, "The
--- ledger program", has printed. Bytes past the buffer's end are left out.
+-- Parts of a text put into a buffer one after the other, and a run's whole text: what the code's functions leave. Bytes past the
+-- buffer's end are left out. Document 01, "The ledger program".
 use Prim.Native.Nat.{ℕ, _+_, _≤_}
 use mathlib.Core.Path.{_≡_}
 use mathlib.Core.List.{List, []}

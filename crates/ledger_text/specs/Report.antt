@@ -1,4 +1,4 @@
--- The call `report`, document 01, "The ledger program": what is printed for an image, and every word and byte lent for it afterwards.
+-- The call `report`: what is printed for an image, and every word and byte lent for it afterwards. Document 01, "The ledger program".
 use Prim.Native.Nat.{ℕ}
 use mathlib.Core.Path.{_≡_}
 use mathlib.Core.Bool.{Bool, cond}
@@ -25,7 +25,7 @@ abbrev pub textLength : ReportAnswer → ℕ
 textLength (ReportAnswer.Text bytes) = bytes
 textLength ReportAnswer.NoRoom = 0
 
--- The answer is the text's length. An output that is not roomy is answered so, whatever the image, and then nothing changes.
+-- The answer is the text's length. An output that is not roomy is answered `NoRoom`, whatever the image, and then nothing changes.
 pub record Reports (bytes memory out memory′ out′ : List ℕ) (r : ReportAnswer) : Type 0 where
   pub result : r ≡ cond (roomy out) (ReportAnswer.Text (length (ledger (readOf bytes (length memory))))) ReportAnswer.NoRoom
   pub size : textLength r ≡ cond (roomy out) (length (ledger (readOf bytes (length memory)))) 0

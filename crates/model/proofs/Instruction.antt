@@ -4,17 +4,16 @@ use mathlib.Core.Path.{_≡_, refl, _∙_}
 use mathlib.Core.Bool.{Bool, true, false, not, cond, _&&_, _||_}
 use mathlib.Core.List.{List}
 use native.Mathlib.Omega.{arith}
-use lib.ListN.{set}
 use Rattle.arithmetic.specs.Words.{asNumber}
 use Rattle.model.specs.declared.Machine.{Machine}
 use Rattle.model.specs.declared.GateState.{GateState}
 use Rattle.model.specs.Words.{wordAt, present, storeWord}
-use Rattle.model.specs.Operands.{operandB, registerOf, inMemory, registerWord}
+use Rattle.model.specs.Operands.{operandB, inMemory, registerWord, setRegister}
 use Rattle.model.specs.Waits.{nextPosition, positionAfter}
 use Rattle.model.specs.Interpreter as I
 use Rattle.model.specs.GateMachine.{Gate, gate, withRow, withRegs, withAddress, withA, withB, withAccess, addressPc, readInstruction, stepPc, compute, stepUpA, stepUpB, work, isAccess, clock}
 use Rattle.model.specs.Agreement.{machineOf}
-use Rattle.model.proofs.Reach.{Reaches, then, costs, stays, row, accessed}
+use Rattle.model.proofs.Reach.{Reaches, joined, costs, stays, row, accessed}
 
 -- ---- an operand's read, from the row that prepared it: `mem` says whether it is in memory, and `word` is then its address
 
@@ -40,12 +39,12 @@ module _ (waits memory : List ℕ) (read next : ℕ) (latch : ℕ → GateState 
       → Reaches waits g (1 + asNumber mem) (0 + asNumber mem) (gate (taken mem) memory f)
   unfolding positionAfter
   takes f access reads keeps true here g e q =
-      then waits (row waits e q)
+      joined waits (row waits e q)
       (accessed waits (withRow read (withAddress word s)) memory f access here p l
       (reads (withAddress word (withAccess (nextPosition waits p) false 0 s)))
       (keeps _ (withRow read (withAddress word (withAccess (nextPosition waits p) false 0 s)))))
   takes f access reads keeps false here g e q =
-      then waits (row waits e (keeps _ (withAccess p false l s) ∙ q)) (stays waits)
+      joined waits (row waits e (keeps _ (withAccess p false l s) ∙ q)) (stays waits)
 
 -- ---- the store, from the row that computed: `st` says whether there is one, `mem` whether B is in memory, at the address `word`
 
@@ -57,7 +56,7 @@ module _ (waits memory : List ℕ) (s : GateState) (word p l : ℕ) where
   abbrev written : Bool → Bool → GateState
   written st mem =
       withRow 10
-      (withRegs (cond st (cond mem (s .regs) (set (s .regs) (registerOf (operandB (s .instruction))) (s .result))) (s .regs))
+      (withRegs (cond st (cond mem (s .regs) (setRegister (operandB (s .instruction)) (s .result) (s .regs))) (s .regs))
       (withAddress (cond mem word (s .address))
       (withAccess (positionAfter waits p (asNumber (st && mem))) false (cond (st && mem) 0 l) s)))
 
@@ -114,8 +113,8 @@ module _ (waits memory : List ℕ) (s : GateState) where
     pub fetches : present memory (I.pc memory m) ≡ true → Reaches waits (gate (idle s) memory f) 3 1 (gate fetched memory f)
     unfolding clock work isAccess
     fetches here =
-        then waits {h = gate (addressPc memory (idle s)) memory f} (row waits refl refl)
-        (then waits (accessed waits (addressPc memory (idle s)) memory f refl here (s .position) (s .left) refl refl)
+        joined waits {h = gate (addressPc memory (idle s)) memory f} (row waits refl refl)
+        (joined waits (accessed waits (addressPc memory (idle s)) memory f refl here (s .position) (s .left) refl refl)
         (row waits refl refl))
 
     pub takes-a : I.presentA memory m ≡ true
@@ -137,16 +136,16 @@ module _ (waits memory : List ℕ) (s : GateState) where
         (gate writtenB (I.nextMemory memory m) f)
     unfolding clock work isAccess
     writes-b here =
-        then waits (row waits refl refl)
+        joined waits (row waits refl refl)
         (writes waits memory computed (I.addressB memory m) (computed .position) (computed .left) f (I.isStored memory m) (inMemory (I.opB memory m)) here)
 
     finishes : Reaches waits (gate writtenB (I.nextMemory memory m) f) 2 0 next
     unfolding clock work isAccess
     finishes =
-        then waits {h = gate (stepUpA memory writtenB) (I.nextMemory memory m) f} (row waits refl refl) (row waits refl refl)
+        joined waits {h = gate (stepUpA memory writtenB) (I.nextMemory memory m) f} (row waits refl refl) (row waits refl refl)
 
     pub executes : present memory (I.pc memory m) ≡ true → I.presentA memory m ≡ true → I.presentB memory m ≡ true
         → Reaches waits (gate (idle s) memory f) (I.baseClocks memory m) (I.accesses memory m) next
     executes hereI hereA hereB =
         costs waits (omega arith) (omega arith)
-        (then waits (fetches hereI) (then waits (takes-a hereA) (then waits (takes-b hereB) (then waits (writes-b hereB) finishes))))
+        (joined waits (fetches hereI) (joined waits (takes-a hereA) (joined waits (takes-b hereB) (joined waits (writes-b hereB) finishes))))

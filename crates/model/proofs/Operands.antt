@@ -10,7 +10,7 @@ use borrow.Author.Tests.{lt-ltb, le-ltb}
 use Rattle.model.specs.declared.Operand.{Operand}
 use Rattle.model.specs.declared.Operand.the-variants.{Direct, Indirect, Before, After}
 use Rattle.model.specs.Words.{inc, wordAt, present}
-use Rattle.model.specs.Operands.{operand, registerOf, stepped, stepDown, registerWord}
+use Rattle.model.specs.Operands.{operand, registerOf, stepped, stepDown, registerWord, setRegister}
 
 pub after : (mode r : ℕ) → 3 ≤ mode → After r ≡ operand mode r
 after mode r h = sym (List·getD-eq-default (Direct r ∷ Indirect r ∷ Before r ∷ []) (After r) {n = mode} h)
@@ -27,13 +27,13 @@ register-small (After r) = omega arith
 
 -- ---- stepped down, and its old word put back
 
-put-back : (o : Operand) (regs : List ℕ) → set (stepDown o regs) (registerOf o) (registerWord o regs) ≡ regs
+put-back : (o : Operand) (regs : List ℕ) → setRegister o (registerWord o regs) (stepDown o regs) ≡ regs
 put-back (Direct r) regs = set-getD regs (r % 8) 0
 put-back (Indirect r) regs = set-getD regs (r % 8) 0
 put-back (Before r) regs = set-set regs (r % 8) _ _ ∙ set-getD regs (r % 8) 0
 put-back (After r) regs = set-getD regs (r % 8) 0
 
-pub restored : (o : Operand) {r d b : List ℕ} {x : ℕ} → x ≡ registerWord o r → d ≡ stepDown o r → b ≡ set d (registerOf o) x → b ≡ r
+pub restored : (o : Operand) {r d b : List ℕ} {x : ℕ} → x ≡ registerWord o r → d ≡ stepDown o r → b ≡ setRegister o x d → b ≡ r
 restored o {r} e f g = rw (g, f, e) (put-back o r)
 
 pub restored-pc : (regs : List ℕ) {r : List ℕ} → r ≡ stepped inc 0 regs → set r 0 (wordAt regs 0) ≡ regs

@@ -4,10 +4,9 @@ use mathlib.Core.Path.{_≡_, refl, ap, _∙_}
 use mathlib.Core.Bool.{Bool, true, false, not, cond}
 use native.Mathlib.Nat.{div-one, div-div-eq-div-mul}
 use native.Mathlib.Omega.{arith}
-use lib.Dec.{eqb}
 use lib.Bits.{bitAnd, bitOr, and-le-l, and-block, or-block}
 use Rattle.arithmetic.specs.declared.AluOut.{AluOut}
-use Rattle.arithmetic.specs.Words.{asNumber, topOf}
+use Rattle.arithmetic.specs.Words.{asNumber}
 use Rattle.arithmetic.proofs.Bits.{bit-le, digit-bit, low-nibble}
 use Rattle.model.specs.declared.Flags.{Flags}
 use Rattle.model.specs.Words.{field, bit}
@@ -73,12 +72,12 @@ weighed : (f : Flags) → packedOf f ≡ ((asNumber (f .carry) * 2 + asNumber (f
 unfolding packedOf
 weighed f = omega arith
 
-abbrev turned : Flags → Flags
-turned p = record { carry = not (p .carry); overflow = not (p .overflow); negative = not (p .negative); zero = not (p .zero) }
+abbrev inverted : Flags → Flags
+inverted p = record { carry = not (p .carry); overflow = not (p .overflow); negative = not (p .negative); zero = not (p .zero) }
 
-turned-weighs : (p : Flags) → 15 - packedOf p ≡ packedOf (turned p)
+inverted-weighs : (p : Flags) → 15 - packedOf p ≡ packedOf (inverted p)
 unfolding packedOf
-turned-weighs p = omega (arith, both (p .carry), both (p .overflow), both (p .negative), both (p .zero))
+inverted-weighs p = omega (arith, both (p .carry), both (p .overflow), both (p .negative), both (p .zero))
   where
     both : (b : Bool) → asNumber b + asNumber (not b) ≡ 1
     both true = refl
@@ -96,7 +95,7 @@ chosen p g f =
 
 merged-all : (p g f : Flags) → merged (packedOf f) (15 - packedOf p) (packedOf g) (packedOf p) ≡ packedOf (chosen p g f)
 merged-all p g f =
-    rw (turned-weighs p, weighed f, weighed (turned p), weighed g, weighed p, weighed (chosen p g f))
+    rw (inverted-weighs p, weighed f, weighed (inverted p), weighed g, weighed p, weighed (chosen p g f))
     (more _ _ _ _ (p .zero) (g .zero) (f .zero)
     ∙ ap (λ (x : ℕ). x * 2 + asNumber (cond (p .zero) (g .zero) (f .zero)))
     (more _ _ _ _ (p .negative) (g .negative) (f .negative)
@@ -104,10 +103,9 @@ merged-all p g f =
     (more _ _ _ _ (p .overflow) (g .overflow) (f .overflow)
     ∙ ap (λ (x : ℕ). x * 2 + asNumber (cond (p .overflow) (g .overflow) (f .overflow))) (digit-merged (p .carry) (g .carry) (f .carry)))))
 
--- what the unit's answer has each flag be
+-- the unit's flags
 abbrev unitFlags : AluOut → Flags
-unitFlags out =
-    record { carry = out .carry; overflow = out .overflow; negative = topOf 31 (out .result); zero = eqb (out .result) 0 }
+unitFlags out = record { carry = out .carry; overflow = out .overflow; negative = out .negative; zero = out .zero }
 
 -- the permits of a word are its bits 10 to 13
 permitted : (word : ℕ) (f : Flags) (out : AluOut) → chosen (flagsOf (word / 1024)) (unitFlags out) f ≡ flagsAfter word f out
@@ -115,7 +113,7 @@ unfolding flagsOf flagsAfter bit field
 permitted word f out =
     rw (div-div-eq-div-mul word 1024 8, div-div-eq-div-mul word 1024 4, div-div-eq-div-mul word 1024 2, div-div-eq-div-mul word 1024 1)
 
-pub sets : (word flags : ℕ) (out : AluOut) {g : ℕ} → g ≡ packedOf (unitFlags out)
+pub flags-set : (word flags : ℕ) (out : AluOut) {g : ℕ} → g ≡ packedOf (unitFlags out)
     → merged (flags % 16) (15 - word / 1024 % 16) g (word / 1024 % 16) ≡ packedOf (flagsAfter word (flagsOf flags) out)
-sets word flags out e =
+flags-set word flags out e =
     rw (e, ← (packs flags), ← (packs (word / 1024))) (merged-all (flagsOf (word / 1024)) (unitFlags out) (flagsOf flags) ∙ ap packedOf (permitted word (flagsOf flags) out))

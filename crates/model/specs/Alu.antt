@@ -1,12 +1,10 @@
 -- What an instruction has the arithmetic unit do, the flags and the storing condition. Document 01, "Machine and instruction word", move
--- bits 0 and 1. The unit's answers are of the crate arithmetic.
+-- bit 0 and move bit 1. The unit's answers are of the crate arithmetic.
 use Prim.Native.Nat.{ℕ}
 use mathlib.Core.Bool.{Bool, true, not, cond}
 use mathlib.Core.List.{List, [], _∷_}
-use lib.Dec.{eqb}
 use lib.ListN.{getD}
 use Rattle.arithmetic.specs.declared.AluOut.{AluOut}
-use Rattle.arithmetic.specs.Words.{topOf}
 use Rattle.arithmetic.specs.Alu.{aluOf}
 use Rattle.model.specs.declared.Flags.{Flags}
 use Rattle.model.specs.Words.{field, bit}
@@ -28,8 +26,8 @@ flagsAfter w flags out =
     record {
       carry = cond (bit w 13) (out .carry) (flags .carry);
       overflow = cond (bit w 12) (out .overflow) (flags .overflow);
-      negative = cond (bit w 11) (topOf 31 (out .result)) (flags .negative);
-      zero = cond (bit w 10) (eqb (out .result) 0) (flags .zero);
+      negative = cond (bit w 11) (out .negative) (flags .negative);
+      zero = cond (bit w 10) (out .zero) (flags .zero);
     }
 
 -- a move's condition by operation number, on the flags before the instruction; 8 to 15 is always

@@ -2,50 +2,75 @@
 use Prim.Native.Nat.{ℕ, zero, suc, _+_, _-_}
 use mathlib.Core.Bool.{Bool, true, false, cond}
 use mathlib.Core.List.{List, [], _∷_}
-use lib.ListN.{getD, set}
+use lib.ListN.{getD}
 use Rattle.model.specs.declared.Flags.{Flags}
 use Rattle.model.specs.declared.Operand.{Operand}
 use Rattle.model.specs.declared.GateState.{GateState}
 use Rattle.model.specs.Words.{inc, wordAt, present, storeWord}
-use Rattle.model.specs.Operands.{operandA, operandB, registerOf, inMemory, stepped, stepDown, stepUp, registerWord}
+use Rattle.model.specs.Operands.{operandA, operandB, inMemory, stepped, stepDown, stepUp, registerWord, setRegister}
 use Rattle.model.specs.Alu.{alu, flagsAfter, stores}
 use Rattle.model.specs.Waits.{waitAt, nextPosition}
 
--- ---- a state with one part changed
+-- ---- a state, part by part, and with one part changed
+
+abbrev pub stateWith : List ℕ → Flags → (row instruction address a b result position : ℕ) → (begun : Bool) → (left : ℕ) → GateState
+stateWith regs flags row instruction address a b result position begun left =
+    record {
+      regs = regs;
+      flags = flags;
+      row = row;
+      instruction = instruction;
+      address = address;
+      a = a;
+      b = b;
+      result = result;
+      position = position;
+      begun = begun;
+      left = left;
+    }
 
 abbrev pub withRow : ℕ → GateState → GateState
-withRow x s = record { regs = s .regs; flags = s .flags; row = x; instruction = s .instruction; address = s .address; a = s .a; b = s .b; result = s .result; position = s .position; begun = s .begun; left = s .left }
+withRow x s =
+    stateWith (s .regs) (s .flags) x (s .instruction) (s .address) (s .a) (s .b) (s .result) (s .position) (s .begun) (s .left)
 
 abbrev pub withRegs : List ℕ → GateState → GateState
-withRegs x s = record { regs = x; flags = s .flags; row = s .row; instruction = s .instruction; address = s .address; a = s .a; b = s .b; result = s .result; position = s .position; begun = s .begun; left = s .left }
+withRegs x s =
+    stateWith x (s .flags) (s .row) (s .instruction) (s .address) (s .a) (s .b) (s .result) (s .position) (s .begun) (s .left)
 
 abbrev pub withFlags : Flags → GateState → GateState
-withFlags x s = record { regs = s .regs; flags = x; row = s .row; instruction = s .instruction; address = s .address; a = s .a; b = s .b; result = s .result; position = s .position; begun = s .begun; left = s .left }
+withFlags x s =
+    stateWith (s .regs) x (s .row) (s .instruction) (s .address) (s .a) (s .b) (s .result) (s .position) (s .begun) (s .left)
 
 abbrev pub withInstruction : ℕ → GateState → GateState
-withInstruction x s = record { regs = s .regs; flags = s .flags; row = s .row; instruction = x; address = s .address; a = s .a; b = s .b; result = s .result; position = s .position; begun = s .begun; left = s .left }
+withInstruction x s =
+    stateWith (s .regs) (s .flags) (s .row) x (s .address) (s .a) (s .b) (s .result) (s .position) (s .begun) (s .left)
 
 abbrev pub withAddress : ℕ → GateState → GateState
-withAddress x s = record { regs = s .regs; flags = s .flags; row = s .row; instruction = s .instruction; address = x; a = s .a; b = s .b; result = s .result; position = s .position; begun = s .begun; left = s .left }
+withAddress x s =
+    stateWith (s .regs) (s .flags) (s .row) (s .instruction) x (s .a) (s .b) (s .result) (s .position) (s .begun) (s .left)
 
 abbrev pub withA : ℕ → GateState → GateState
-withA x s = record { regs = s .regs; flags = s .flags; row = s .row; instruction = s .instruction; address = s .address; a = x; b = s .b; result = s .result; position = s .position; begun = s .begun; left = s .left }
+withA x s =
+    stateWith (s .regs) (s .flags) (s .row) (s .instruction) (s .address) x (s .b) (s .result) (s .position) (s .begun) (s .left)
 
 abbrev pub withB : ℕ → GateState → GateState
-withB x s = record { regs = s .regs; flags = s .flags; row = s .row; instruction = s .instruction; address = s .address; a = s .a; b = x; result = s .result; position = s .position; begun = s .begun; left = s .left }
+withB x s =
+    stateWith (s .regs) (s .flags) (s .row) (s .instruction) (s .address) (s .a) x (s .result) (s .position) (s .begun) (s .left)
 
 abbrev pub withResult : ℕ → GateState → GateState
-withResult x s = record { regs = s .regs; flags = s .flags; row = s .row; instruction = s .instruction; address = s .address; a = s .a; b = s .b; result = x; position = s .position; begun = s .begun; left = s .left }
+withResult x s =
+    stateWith (s .regs) (s .flags) (s .row) (s .instruction) (s .address) (s .a) (s .b) x (s .position) (s .begun) (s .left)
 
 -- the access in hand: position in the wait list, whether it has begun, clocks left
 abbrev pub withAccess : ℕ → Bool → ℕ → GateState → GateState
-withAccess p begun left s = record { regs = s .regs; flags = s .flags; row = s .row; instruction = s .instruction; address = s .address; a = s .a; b = s .b; result = s .result; position = p; begun = begun; left = left }
+withAccess p begun left s =
+    stateWith (s .regs) (s .flags) (s .row) (s .instruction) (s .address) (s .a) (s .b) (s .result) p begun left
 
 -- ---- the whole machine
 
 -- between instructions, with nothing latched and no access begun
 abbrev pub atRest : List ℕ → Flags → GateState
-atRest regs flags = record { regs = regs; flags = flags; row = 0; instruction = 0; address = 0; a = 0; b = 0; result = 0; position = 0; begun = false; left = 0 }
+atRest regs flags = stateWith regs flags 0 0 0 0 0 0 0 false 0
 
 -- the machine with its memory, and the instructions that have finished
 pub record Gate : Type 0 where
@@ -99,7 +124,7 @@ compute memory s =
 
 abbrev pub writeRegister : List ℕ → GateState → GateState
 writeRegister memory s =
-    withRow 10 (withRegs (set (s .regs) (registerOf (operandB (s .instruction))) (s .result)) s)
+    withRow 10 (withRegs (setRegister (operandB (s .instruction)) (s .result) (s .regs)) s)
 
 abbrev pub writeMemory : Gate → Gate
 writeMemory g =
@@ -134,9 +159,11 @@ unfoldable pub work : Gate → Gate
 work g = getD rows (g .state .row) (λ h. h) g
 
 -- rows 1, 4, 6 and 9
+abbrev pub accessRows : List Bool
+accessRows = false ∷ true ∷ false ∷ false ∷ true ∷ false ∷ true ∷ false ∷ false ∷ true ∷ []
+
 unfoldable pub isAccess : ℕ → Bool
-isAccess row =
-    getD (false ∷ true ∷ false ∷ false ∷ true ∷ false ∷ true ∷ false ∷ false ∷ true ∷ []) row false
+isAccess row = getD accessRows row false
 
 -- ---- one clock
 

@@ -27,8 +27,8 @@ accessesOf memA memB stored = 1 + asNumber memA + asNumber memB + asNumber (stor
 
 -- ---- one instruction, from a memory and a machine
 
-abbrev pub machine : List ℕ → Flags → Machine
-machine regs flags = record { regs = regs; flags = flags }
+abbrev pub machineWith : List ℕ → Flags → Machine
+machineWith regs flags = record { regs = regs; flags = flags }
 
 module _ (memory : List ℕ) (m : Machine) where
   -- (i) fetch
@@ -95,7 +95,7 @@ module _ (memory : List ℕ) (m : Machine) where
 
   -- (v) and (vi) step A, then B up
   abbrev pub nextMachine : Machine
-  nextMachine = machine (stepUp opB (stepUp opA regsStored)) flagsSet
+  nextMachine = machineWith (stepUp opB (stepUp opA regsStored)) flagsSet
 
   -- clocks without waits, and the number of accesses
   abbrev pub baseClocks : ℕ

@@ -50,6 +50,10 @@ stepUp (Indirect r) regs = regs
 stepUp (Before r) regs = regs
 stepUp (After r) regs = stepped inc (r % 8) regs
 
+-- a word put into the operand's register
+abbrev pub setRegister : Operand → ℕ → List ℕ → List ℕ
+setRegister o x regs = set regs (registerOf o) x
+
 -- ---- with the registers as stepped down for the operand
 
 -- the register's word: the operand, or the address of an operand in memory
@@ -64,7 +68,7 @@ operandValue o regs memory = cond (inMemory o) (wordAt memory (registerWord o re
 
 -- a store into the operand: the registers, and the memory, after it
 abbrev pub storeInRegister : Operand → ℕ → List ℕ → List ℕ
-storeInRegister o x regs = cond (inMemory o) regs (set regs (registerOf o) x)
+storeInRegister o x regs = cond (inMemory o) regs (setRegister o x regs)
 
 abbrev pub storeInMemory : Operand → ℕ → List ℕ → List ℕ → List ℕ
 storeInMemory o x regs memory = cond (inMemory o) (storeWord memory (registerWord o regs) x) memory

@@ -4,9 +4,8 @@ use model::Operand;
 use operands::register_of;
 ghost use mathlib.Core.Path.{_≡_};
 ghost use Prim.Native.Nat.{_<_};
-ghost use lib.ListN.{set};
 ghost use Rattle.model.specs.Words.{inc, dec};
-ghost use Rattle.model.specs.Operands.{registerOf, stepped, stepDown, stepUp, registerWord};
+ghost use Rattle.model.specs.Operands.{stepped, stepDown, stepUp, registerWord, setRegister};
 
 // The word of an operand's register.
 pub fn register_word(o: Operand, regs: &[u32; 8]) -> u32
@@ -18,7 +17,7 @@ pub fn register_word(o: Operand, regs: &[u32; 8]) -> u32
 
 // Puts a word into an operand's register.
 pub fn set_register(o: Operand, x: u32, regs: &mut [u32; 8])
-    ensures { λ _. ⌜ now (regs .exit) ≡ set (now (regs .entry)) (registerOf o) x ⌝ }
+    ensures { λ _. ⌜ now (regs .exit) ≡ setRegister o x (now (regs .entry)) ⌝ }
 {
     let i = register_of(o) as usize;
     regs[i] = x;

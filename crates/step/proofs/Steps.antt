@@ -1,13 +1,14 @@
 -- One instruction: its operands taken or the registers put back, its store, and the whole.
-use Prim.Native.Nat.{ℕ}
+use Prim.Native.Nat.{ℕ, _≤_, _<_}
 use mathlib.Core.Path.{_≡_, refl, sym, ap, _∙_}
 use mathlib.Core.Bool.{Bool, true, false, _&&_}
 use mathlib.Core.List.{List}
-use lib.ListN.{set}
+use lib.ListN.{length, set}
 use Rattle.model.specs.declared.Operand.{Operand}
-use Rattle.model.specs.Words.{wordAt, present, storeWord}
-use Rattle.model.specs.Operands.{registerOf, inMemory, stepDown, operandPresent}
+use Rattle.model.specs.Words.{inc, wordAt, storeWord}
+use Rattle.model.specs.Operands.{operandA, operandB, inMemory, registerWord, stepped, stepDown, operandPresent, setRegister}
 use Rattle.model.specs.Interpreter as I
+use Rattle.model.proofs.Operands.{restored, restored-pc, down-eq, fetch-here, fetch-gone}
 use Rattle.model.proofs.Cases.{cond-true, cond-false, tells}
 use Rattle.step.specs.declared.take.Taken.{Taken}
 use Rattle.step.specs.declared.fetch.Fetched.{Fetched}
@@ -15,7 +16,7 @@ use Rattle.step.specs.declared.Stepped.{Stepped}
 use Rattle.step.specs.Steps.{takenOf, Takes, bare, nothing, fetchedOf, Fetches, Notes, PutsResult, Finishes, stoppedAt, Steps}
 
 -- an operand taken, in the definition's terms, and its registers
-pub took : {o q : Operand} {r s d : List ℕ} {t : Taken} (memory : List ℕ) → o ≡ q → r ≡ s → Takes o r memory d t
+took : {o q : Operand} {r s d : List ℕ} {t : Taken} (memory : List ℕ) → o ≡ q → r ≡ s → Takes o r memory d t
     → t ≡ takenOf q (stepDown q s) memory
 took memory p e h = rw (h .result, p, e)
 
@@ -23,10 +24,10 @@ module _ {o : Operand} {r memory d : List ℕ} {t : Taken} (h : Takes o r memory
   found : t .present ≡ operandPresent o (stepDown o r) memory
   found = ap (λ (t : Taken). t .present) (h .result)
 
-  pub took-down : t .present ≡ true → d ≡ stepDown o r
+  took-down : t .present ≡ true → d ≡ stepDown o r
   took-down e = h .registers ∙ sym (cond-true (stepDown o r) r (sym found ∙ e))
 
-  pub took-back : t .present ≡ false → d ≡ r
+  took-back : t .present ≡ false → d ≡ r
   took-back e = h .registers ∙ sym (cond-false (stepDown o r) r (sym found ∙ e))
 
 module _ (o : Operand) (r memory : List ℕ) {d : List ℕ} {t : Taken} (e : t ≡ takenOf o d memory) (f : d ≡ stepDown o r) where
@@ -36,40 +37,44 @@ module _ (o : Operand) (r memory : List ℕ) {d : List ℕ} {t : Taken} (e : t �
   there : t .present ≡ operandPresent o (stepDown o r) memory
   there = ap (λ (t : Taken). t .present) looked
 
+module _ {o : Operand} {r memory d : List ℕ} {t : Taken} (e : t ≡ takenOf o d memory) (f : d ≡ stepDown o r) where
   pub takes-there : t .present ≡ true → Takes o r memory d t
-  takes-there h = record { result = looked; registers = f ∙ cond-true (stepDown o r) r (sym there ∙ h) }
+  takes-there h = record { result = looked o r memory e f; registers = f ∙ cond-true (stepDown o r) r (sym (there o r memory e f) ∙ h) }
 
-  pub takes-back : {b : List ℕ} → t .present ≡ false → b ≡ r → Takes o r memory b t
-  takes-back h g = record { result = looked; registers = g ∙ cond-false (stepDown o r) r (sym there ∙ h) }
+  pub takes-back : t .present ≡ false → {x : ℕ} → x ≡ registerWord o r → {b : List ℕ} → b ≡ setRegister o x d → Takes o r memory b t
+  takes-back h old g =
+      record {
+        result = looked o r memory e f;
+        registers = restored o old f g ∙ cond-false (stepDown o r) r (sym (there o r memory e f) ∙ h);
+      }
 
 -- ---- the store
 
-pub puts-none : (f : Fetched) (x pairs : ℕ) (regs memory journal : List ℕ) {t : Bool} → t ≡ false → PutsResult t f x pairs regs memory journal regs memory journal pairs
-puts-none f x pairs regs memory journal e =
-    record { registers = rw e; words = rw e; places = rw e; count = rw e }
+module _ {f : Fetched} {x pairs : ℕ} {regs memory journal : List ℕ} {t : Bool} where
+  pub puts-none : t ≡ false → PutsResult t f x pairs regs memory journal regs memory journal pairs
+  puts-none e = record { registers = rw e; words = rw e; places = rw e; count = rw e }
 
-pub puts-memory : (f : Fetched) (x pairs : ℕ) (regs memory journal : List ℕ) {t : Bool} {i r : ℕ} {memory′ journal′ : List ℕ}
-    → t ≡ true → inMemory (f .ob) ≡ true → i ≡ f .address → memory′ ≡ storeWord memory i x → Notes journal pairs (f .address) (f .b) journal′ r
-    → PutsResult t f x pairs regs memory journal regs memory′ journal′ r
-puts-memory f x pairs regs memory journal e m p q n =
-    record { registers = rw (e, m); words = rw (e, m, q, p); places = rw (e, m) (n .places); count = rw (e, m) (n .count) }
+  pub puts-memory : t ≡ true → inMemory (f .ob) ≡ true → {i r : ℕ} {memory′ journal′ : List ℕ}
+      → i ≡ f .address → memory′ ≡ storeWord memory i x → Notes journal pairs (f .address) (f .b) journal′ r
+      → PutsResult t f x pairs regs memory journal regs memory′ journal′ r
+  puts-memory e m p q n =
+      record { registers = rw (e, m); words = rw (e, m, q, p); places = rw (e, m) (n .places); count = rw (e, m) (n .count) }
 
-pub puts-register : (f : Fetched) (x pairs : ℕ) (regs memory journal : List ℕ) {t : Bool} {regs′ : List ℕ} → t ≡ true → inMemory (f .ob) ≡ false
-    → regs′ ≡ set regs (registerOf (f .ob)) x → PutsResult t f x pairs regs memory journal regs′ memory journal pairs
-puts-register f x pairs regs memory journal e m q =
-    record { registers = rw (e, m) q; words = rw (e, m); places = rw (e, m); count = rw (e, m) }
+  pub puts-register : t ≡ true → inMemory (f .ob) ≡ false → {regs′ : List ℕ} → regs′ ≡ setRegister (f .ob) x regs
+      → PutsResult t f x pairs regs memory journal regs′ memory journal pairs
+  puts-register e m q = record { registers = rw (e, m) q; words = rw (e, m); places = rw (e, m); count = rw (e, m) }
 
--- ---- the fetch, and the whole instruction
+-- ---- the fetch
 
 module _ (regs memory : List ℕ) where
-  pub none : {regs′ : List ℕ} {f : Fetched} → I.inside memory (bare regs) ≡ false → f ≡ nothing → regs′ ≡ regs → Fetches regs memory regs′ f
+  none : {regs′ : List ℕ} {f : Fetched} → I.inside memory (bare regs) ≡ false → f ≡ nothing → regs′ ≡ regs → Fetches regs memory regs′ f
   none h e p =
       record {
         result = e ∙ cond-false (fetchedOf regs memory) nothing h;
         registers = p ∙ cond-false (I.regsB memory (bare regs)) regs h;
       }
 
-  pub all : {regs′ : List ℕ} {f : Fetched} → I.inside memory (bare regs) ≡ true → f ≡ fetchedOf regs memory → regs′ ≡ I.regsB memory (bare regs)
+  all : {regs′ : List ℕ} {f : Fetched} → I.inside memory (bare regs) ≡ true → f ≡ fetchedOf regs memory → regs′ ≡ I.regsB memory (bare regs)
       → Fetches regs memory regs′ f
   all h e p =
       record {
@@ -77,38 +82,63 @@ module _ (regs memory : List ℕ) where
         registers = p ∙ cond-true (I.regsB memory (bare regs)) regs h;
       }
 
-  pub fetched-eq : {i : ℕ} {t u : Taken} → i ≡ wordAt regs 0
-      → t ≡ takenOf (I.opA memory (bare regs)) (I.regsA memory (bare regs)) memory
-      → u ≡ takenOf (I.opB memory (bare regs)) (I.regsB memory (bare regs)) memory
-      → {oa ob : Operand} → oa ≡ I.opA memory (bare regs) → ob ≡ I.opB memory (bare regs)
-      → record { inside = true; word = wordAt memory i; oa = oa; ob = ob; a = t .value; b = u .value; address = u .word } ≡ fetchedOf regs memory
-  fetched-eq e p q r s = rw (e, p, q, r, s)
+  pub pc-gone : {i : ℕ} → i ≡ wordAt regs 0 → length memory ≤ i → {f : Fetched} → f ≡ nothing → Fetches regs memory regs f
+  pc-gone at h e =
+      let gone = fetch-gone regs memory at h in
+      none (ap (λ (t : Bool). t && I.presentA memory (bare regs) && I.presentB memory (bare regs)) gone) e refl
 
-  pub outside-pc : present memory (wordAt regs 0) ≡ false → I.inside memory (bare regs) ≡ false
-  outside-pc p = ap (λ (t : Bool). t && I.presentA memory (bare regs) && I.presentB memory (bare regs)) p
+  -- the word is there, and A is taken
+  module _ {i : ℕ} (at : i ≡ wordAt regs 0) (here : i < length memory) {oa : Operand} (is-a : oa ≡ operandA (wordAt memory i))
+      {r0 r1 : List ℕ} {t : Taken} (pc : r0 ≡ stepped inc 0 regs) (h : Takes oa r0 memory r1 t) where
+    op-a : oa ≡ I.opA memory (bare regs)
+    op-a = is-a ∙ ap (λ (i : ℕ). operandA (wordAt memory i)) at
 
-  pub outside-a : {t : Taken} → present memory (wordAt regs 0) ≡ true → t ≡ takenOf (I.opA memory (bare regs)) (I.regsA memory (bare regs)) memory
-      → t .present ≡ false → I.inside memory (bare regs) ≡ false
-  outside-a p e q = ap (λ (t : Bool). t && I.presentA memory (bare regs) && I.presentB memory (bare regs)) p ∙ ap (λ (t : Bool). t && I.presentB memory (bare regs)) (sym (ap (λ (t : Taken). t .present) e) ∙ q)
+    a : t ≡ takenOf (I.opA memory (bare regs)) (I.regsA memory (bare regs)) memory
+    a = took memory op-a pc h
 
-  pub with-b : {t u : Taken} {v : Bool} → present memory (wordAt regs 0) ≡ true
-      → t ≡ takenOf (I.opA memory (bare regs)) (I.regsA memory (bare regs)) memory → t .present ≡ true
-      → u ≡ takenOf (I.opB memory (bare regs)) (I.regsB memory (bare regs)) memory → u .present ≡ v
-      → I.inside memory (bare regs) ≡ v
-  with-b p e q f r =
-      ap (λ (t : Bool). t && I.presentA memory (bare regs) && I.presentB memory (bare regs)) p
-      ∙ ap (λ (t : Bool). t && I.presentB memory (bare regs)) (sym (ap (λ (t : Taken). t .present) e) ∙ q)
-      ∙ (sym (ap (λ (t : Taken). t .present) f) ∙ r)
+    with-a : {v : Bool} → t .present ≡ v → I.inside memory (bare regs) ≡ (v && I.presentB memory (bare regs))
+    with-a q =
+        ap (λ (t : Bool). t && I.presentA memory (bare regs) && I.presentB memory (bare regs)) (fetch-here regs memory at here)
+        ∙ ap (λ (t : Bool). t && I.presentB memory (bare regs)) (sym (ap (λ (t : Taken). t .present) a) ∙ q)
 
+    pub a-gone : t .present ≡ false → {f : Fetched} → f ≡ nothing → Fetches regs memory (set r1 0 (wordAt regs 0)) f
+    a-gone q e = none (with-a q) e (restored-pc regs (took-back h q ∙ pc))
+
+    -- and B
+    module _ (q : t .present ≡ true) {ob : Operand} (is-b : ob ≡ operandB (wordAt memory i))
+        {r2 : List ℕ} {u : Taken} (g : Takes ob r1 memory r2 u) where
+      op-b : ob ≡ I.opB memory (bare regs)
+      op-b = is-b ∙ ap (λ (i : ℕ). operandB (wordAt memory i)) at
+
+      regs-a : r1 ≡ I.regsA memory (bare regs)
+      regs-a = down-eq op-a pc (took-down h q)
+
+      b : u ≡ takenOf (I.opB memory (bare regs)) (I.regsB memory (bare regs)) memory
+      b = took memory op-b regs-a g
+
+      with-b : {v : Bool} → u .present ≡ v → I.inside memory (bare regs) ≡ v
+      with-b e = with-a q ∙ sym (ap (λ (t : Taken). t .present) b) ∙ e
+
+      pub b-gone : u .present ≡ false → {x : ℕ} → x ≡ registerWord oa r0 → {r3 : List ℕ} → r3 ≡ setRegister oa x r2
+          → {f : Fetched} → f ≡ nothing → Fetches regs memory (set r3 0 (wordAt regs 0)) f
+      b-gone e old back n = none (with-b e) n (restored-pc regs (restored oa old (took-back g e ∙ took-down h q) back ∙ pc))
+
+      pub b-there : u .present ≡ true
+          → Fetches regs memory r2
+          (record { inside = true; word = wordAt memory i; oa = oa; ob = ob; a = t .value; b = u .value; address = u .word })
+      b-there e = all (with-b e) (rw (at, a, b, op-a, op-b)) (down-eq op-b regs-a (took-down g e))
+
+-- ---- the whole instruction
+
+module _ {regs memory r1 : List ℕ} {f : Fetched} (h : Fetches regs memory r1 f) where
   -- the fetch says whether the instruction runs
-  is-inside : {r1 : List ℕ} {f : Fetched} {v : Bool} → Fetches regs memory r1 f → f .inside ≡ v → I.inside memory (bare regs) ≡ v
-  is-inside h e = sym (tells (λ (f : Fetched). f .inside) (I.inside memory (bare regs)) refl refl (h .result)) ∙ e
+  is-inside : {v : Bool} → f .inside ≡ v → I.inside memory (bare regs) ≡ v
+  is-inside e = sym (tells (λ (f : Fetched). f .inside) (I.inside memory (bare regs)) refl refl (h .result)) ∙ e
 
-  module _ (journal : List ℕ) (pairs flags : ℕ) where
-    pub stopped : {r1 : List ℕ} {f : Fetched} {s : Stepped} → Fetches regs memory r1 f → f .inside ≡ false → s ≡ stoppedAt flags pairs
-        → Steps regs memory journal pairs flags r1 memory journal s
-    stopped h e p =
-        let t = is-inside h e in
+  module _ {journal : List ℕ} {pairs flags : ℕ} {s : Stepped} where
+    pub step-stops : f .inside ≡ false → s ≡ stoppedAt flags pairs → Steps regs memory journal pairs flags r1 memory journal s
+    step-stops e p =
+        let t = is-inside e in
         record {
           result = p ∙ cond-false _ (stoppedAt flags pairs) t;
           registers = h .registers ∙ sym (cond-false (I.regsB memory (bare regs)) regs t) ∙ cond-false _ regs t;
@@ -116,11 +146,10 @@ module _ (regs memory : List ℕ) where
           places = cond-false _ journal t;
         }
 
-    pub stepped-all : {r1 r2 memory′ journal′ : List ℕ} {f : Fetched} {s : Stepped} → Fetches regs memory r1 f → f .inside ≡ true
-        → Finishes r1 memory journal pairs flags f r2 memory′ journal′ s
+    pub stepped-all : {r2 memory′ journal′ : List ℕ} → f .inside ≡ true → Finishes r1 memory journal pairs flags f r2 memory′ journal′ s
         → Steps regs memory journal pairs flags r2 memory′ journal′ s
-    stepped-all {r1} {r2} {memory′} {journal′} {f} {s} h e g =
-        let t = is-inside h e in
+    stepped-all e g =
+        let t = is-inside e in
         let p : f ≡ fetchedOf regs memory = h .result ∙ sym (cond-true (fetchedOf regs memory) nothing t) in
         let q : r1 ≡ I.regsB memory (bare regs) = h .registers ∙ sym (cond-true (I.regsB memory (bare regs)) regs t) in
         record {

@@ -12,9 +12,9 @@ use Rattle.model.specs.declared.Operand.the-variants.{Direct}
 use Rattle.model.specs.Words.{inc, storeWord}
 use Rattle.model.specs.Operands.{inMemory, stepDown, stepUp, registerWord, operandPresent, operandValue, storeInRegister}
 use Rattle.model.specs.Alu.{alu, flagsAfter, stores}
-use Rattle.model.specs.Interpreter.{machine, instruction, opA, opB, regsB, valueA, valueB, addressB, inside, isStored, nextMemory, nextMachine}
+use Rattle.model.specs.Interpreter.{machineWith, instruction, opA, opB, regsB, valueA, valueB, addressB, inside, isStored, nextMemory, nextMachine}
 use Rattle.model.specs.Journal.{noted}
-use Rattle.model.specs.Packed.{noFlags, packedOf, flagsOf}
+use Rattle.model.specs.Packed.{noFlags, packedOf, flagsOf, packedMachine}
 use Rattle.step.specs.declared.take.Taken.{Taken}
 use Rattle.step.specs.declared.fetch.Fetched.{Fetched}
 use Rattle.step.specs.declared.Stepped.{Stepped}
@@ -35,7 +35,7 @@ pub record Takes (o : Operand) (regs memory regs′ : List ℕ) (t : Taken) : Ty
 -- ---- (i) to (iii), which look at no flag
 
 abbrev pub bare : List ℕ → Machine
-bare regs = machine regs noFlags
+bare regs = machineWith regs noFlags
 
 abbrev pub nothing : Fetched
 nothing = record { inside = false; word = 0; oa = Direct 0; ob = Direct 0; a = 0; b = 0; address = 0 }
@@ -127,7 +127,7 @@ steppedOf memory m pairs =
     }
 
 pub record Steps (regs memory journal : List ℕ) (pairs flags : ℕ) (regs′ memory′ journal′ : List ℕ) (s : Stepped) : Type 0 where
-  pub result : s ≡ cond (inside memory (machine regs (flagsOf flags))) (steppedOf memory (machine regs (flagsOf flags)) pairs) (stoppedAt flags pairs)
-  pub registers : regs′ ≡ cond (inside memory (machine regs (flagsOf flags))) (nextMachine memory (machine regs (flagsOf flags)) .regs) regs
-  pub words : memory′ ≡ cond (inside memory (machine regs (flagsOf flags))) (nextMemory memory (machine regs (flagsOf flags))) memory
-  pub places : journal′ ≡ cond (inside memory (machine regs (flagsOf flags))) (journaled memory (machine regs (flagsOf flags)) journal pairs) journal
+  pub result : s ≡ cond (inside memory (packedMachine regs flags)) (steppedOf memory (packedMachine regs flags) pairs) (stoppedAt flags pairs)
+  pub registers : regs′ ≡ cond (inside memory (packedMachine regs flags)) (nextMachine memory (packedMachine regs flags) .regs) regs
+  pub words : memory′ ≡ cond (inside memory (packedMachine regs flags)) (nextMemory memory (packedMachine regs flags)) memory
+  pub places : journal′ ≡ cond (inside memory (packedMachine regs flags)) (journaled memory (packedMachine regs flags) journal pairs) journal

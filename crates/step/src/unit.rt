@@ -7,7 +7,7 @@ ghost use mathlib.Core.Path.{_≡_};
 ghost use Rattle.model.specs.Alu.{alu};
 ghost use Rattle.model.specs.Packed.{flagsOf};
 
-// Result, carry and overflow.
+// The result and its flags.
 pub fn unit_of(word: u32, flags: u32, a: u32, b: u32) -> AluOut
     ensures { λ r. ⌜ r ≡ alu word (flagsOf flags) a b ⌝ }
 {

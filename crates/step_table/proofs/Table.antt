@@ -1,10 +1,9 @@
 -- The table, row by row, and its mark of an access.
-use Prim.Native.Nat.{ℕ, zero, suc, _-_, _≤_, _<_}
-use mathlib.Core.Path.{_≡_, refl, sym, ap, _∙_}
-use mathlib.Core.Bool.{false}
+use Prim.Native.Nat.{ℕ, zero, suc, _<_}
+use mathlib.Core.Path.{_≡_, refl}
 use mathlib.Core.List.{List, [], _∷_}
 use native.Mathlib.Nat.{le-of-suc-le-suc, not-suc-le-zero}
-use lib.ListN.{length, getD, List·getD-eq-default}
+use lib.ListN.{length, getD}
 use Rattle.model.specs.GateMachine.{isAccess}
 use Rattle.model.proofs.Cases.{Each, past, _▸_}
 use Rattle.step_table.specs.declared.Step.{Step}
@@ -27,8 +26,3 @@ marks = refl ▸ refl ▸ refl ▸ refl ▸ refl ▸ refl ▸ refl ▸ refl ▸ 
 -- a row's mark says whether it is an access
 pub access-mark : (r : ℕ) → marksAccess (stepOf r) ≡ isAccess r
 access-mark = marks .at
-
--- past the table there is no access
-pub access-past : (r : ℕ) → 12 ≤ r → false ≡ isAccess r
-unfolding stepOf stepTable
-access-past r h = sym (ap marksAccess (List·getD-eq-default stepTable (r, r, r, 0) {n = r} h)) ∙ access-mark r

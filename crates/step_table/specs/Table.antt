@@ -7,7 +7,7 @@ use lib.ListN.{getD}
 use Rattle.step_table.specs.declared.Step.{Step}
 
 -- For each row: the next row where an operand is in memory, where it is direct, and where nothing is stored; a row that does not ask has
--- one next row. Marks: 1 for an access, 2 where an instruction finishes.
+-- one next row, and rows 3 and 5 do not ask whether anything is stored. Marks: 1 for an access, 2 where an instruction finishes.
 unfoldable pub stepTable : List Step
 stepTable =
     (1, 1, 1, 0)  -- 0

@@ -67,3 +67,7 @@ places-le (suc turns) k n h = go (ltb n 10) refl k h (λ k m h. places-le turns 
 
 pub decimal-le : (k n : ℕ) → n < 10 ^ suc k → length (decimal n) ≤ suc k
 decimal-le k n h = omega (arith, length-digits 10 (digitCount n n) n, places-le n k n h)
+
+-- the decimal digits of a 64-bit number
+pub decimal-short : {n : ℕ} → n < 2 ^ 64 → length (decimal n) ≤ 20
+decimal-short {n} h = decimal-le 19 n (omega arith)

@@ -1,4 +1,5 @@
--- Text as a list of bytes: letters, numbers in decimal, words in capital hexadecimal digits, flags (document 01, "The ledger program").
+-- Text as a list of bytes: letters, numbers in decimal, words in capital hexadecimal digits, flags. Document 01, "The ledger
+-- program".
 use Prim.Native.Nat.{ℕ, zero, suc, _+_, _/_, _%_}
 use Prim.Native.Char.{code}
 use Prim.Native.String.{String}

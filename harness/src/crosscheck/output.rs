@@ -3,7 +3,7 @@
 use super::Case;
 use crate::text::{flag_digits, hex_words};
 use reference::generate::program::Program;
-use reference::{file_run, gate_run, image, run};
+use reference::{file_run, gate_clock, gate_run, image, run};
 use reference::{Answer, FileAnswer, GateState, Machine, Refusal};
 
 pub fn output(cases: &[Case]) -> String {
@@ -18,7 +18,7 @@ fn lines(case: &Case) -> String {
             waits,
             state,
             clocks,
-        } => state_line(memory, waits, *state, *clocks),
+        } => state_lines(memory, waits, *state, *clocks),
         Case::Image { room, bytes } => read_line(*room, bytes),
     }
 }
@@ -88,21 +88,44 @@ fn image_sum(bytes: &[u8]) -> u32 {
     bytes.iter().fold(0, add)
 }
 
-fn state_line(memory: &[u32], waits: &[u16], state: GateState, clocks: u64) -> String {
-    let mut memory = memory.to_vec();
-    let result = gate_run(&mut memory, waits, state, clocks);
-    let answer = result.answer.map_or_else(refused, |()| "ran".into());
-    let s = result.state;
+/// The clocks in one run, and one at a time.
+fn state_lines(memory: &[u32], waits: &[u16], start: GateState, clocks: u64) -> String {
+    let mut words = memory.to_vec();
+    let result = gate_run(&mut words, waits, start, clocks);
+    let run = state_line(
+        "state",
+        result.answer,
+        result.finished,
+        &result.state,
+        &words,
+    );
+    let mut words = memory.to_vec();
+    let mut state = start;
+    let (mut answer, mut finished) = (Ok(()), 0);
+    for _ in 0..clocks {
+        let clock = gate_clock(&mut words, waits, &mut state);
+        answer = clock.map(|count| finished += count);
+    }
+    run + &state_line("lent", answer, finished, &state, &words)
+}
+
+fn state_line(
+    name: &str,
+    answer: Result<(), Refusal>,
+    finished: u64,
+    s: &GateState,
+    memory: &[u32],
+) -> String {
+    let answer = answer.map_or_else(refused, |()| "ran".into());
     let latches = hex_words(&[s.instruction, s.address, s.a, s.b, s.result]);
     format!(
-        "state {answer} {} {} {}{latches} {} {} {}{}\n",
-        result.finished,
+        "{name} {answer} {finished} {} {}{latches} {} {} {}{}\n",
         machine_text(&s.machine()),
         s.row,
         s.position,
         u8::from(s.begun),
         s.left,
-        hex_words(&memory)
+        hex_words(memory)
     )
 }
 

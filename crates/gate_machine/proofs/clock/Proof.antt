@@ -11,7 +11,9 @@ same-length : tie.Need-same-length
 same-length c = search needs
 
 returns : tie.Need-returns
-returns c = record { result = ap clockedOf (c .before .before .before .run .ensures .result); number = c .before .before .before .run .ensures .number; words = c .before .before .before .run .ensures .words }
+returns c =
+    let ran = c .before .before .before .run .ensures in
+    record { result = ap clockedOf (ran .result); number = ran .number; words = ran .words }
 
 pub clock-spec : {M : Type 1} → statement M
 clock-spec = tie.close (tie.spec run-requires same-length returns)

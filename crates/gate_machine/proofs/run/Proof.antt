@@ -20,13 +20,15 @@ same-length : tie.Need-same-length
 same-length c = search needs
 
 returns : tie.Need-returns
-returns c = run-refused (c .before .before .before .before .before .before .before .args .memory .now) (c .before .before .before .before .before .before .before .args .waits .now) (c .before .before .before .before .before .before .before .args .start) (c .before .before .before .before .before .before .before .args .clocks) (c .before .before .before .gate-verdict .result) (c .before .before .before .gate-verdict .ensures) (c .before .verdict .given .0 .0) (c .before .verdict .given .1)
+returns c = run-refused (c .before .before .before .gate-verdict .ensures) (c .before .verdict .given .1)
 
 same-length-2 : tie.Need-same-length-2
 same-length-2 c = search needs
 
 returns-2 : tie.Need-returns-2
-returns-2 c = run-carried (c .before .before .before .before .before .before .before .before .before .before .before .args .memory .now) (c .before .before .before .before .before .before .before .before .before .before .before .args .waits .now) (c .before .before .before .before .before .before .before .before .before .before .before .args .start) (c .before .before .before .before .before .before .before .before .before .before .before .args .clocks) (c .before .before .before .before .before .before .before .gate-verdict .result) (c .before .before .before .before .before .before .before .gate-verdict .ensures) (c .before .before .before .before .before .enum-told .given .1) (c .before .before .before .run-clocks .result .state) (c .before .before .before .run-clocks .last .0) (c .before .before .before .run-clocks .result .finished) (c .before .before .before .run-clocks .ensures)
+returns-2 c =
+    let told = c .before .before .before .before .before in
+    run-carried (told .before .before .gate-verdict .ensures) (told .enum-told .given .1) (c .before .before .before .run-clocks .ensures)
 
 pub run-spec : {M : Type 1} → statement M
 run-spec =

@@ -11,14 +11,14 @@ bit-requires c κs = search needs
 control-requires : tie.Need-control-requires
 control-requires c κs = search needs
 
-slice-aggregate-rows : tie.Need-slice-aggregate-rows
-slice-aggregate-rows c = search needs
+slice-aggregate-adder-rows : tie.Need-slice-aggregate-adder-rows
+slice-aggregate-adder-rows c = search needs
 
-slice-aggregate-rows-2 : tie.Need-slice-aggregate-rows-2
-slice-aggregate-rows-2 c = search needs
+slice-aggregate-adder-rows-2 : tie.Need-slice-aggregate-adder-rows-2
+slice-aggregate-adder-rows-2 c = search needs
 
-rows-requires : tie.Need-rows-requires
-rows-requires c κs = search needs
+adder-rows-requires : tie.Need-adder-rows-requires
+adder-rows-requires c κs = search needs
 
 slice-aggregate-ripple : tie.Need-slice-aggregate-ripple
 slice-aggregate-ripple c = search needs
@@ -50,13 +50,22 @@ array-read-t39 c = search needs
 array-read-t43 : tie.Need-array-read-t43
 array-read-t43 c = search needs
 
+slice-aggregate-any : tie.Need-slice-aggregate-any
+slice-aggregate-any c = search needs
+
+any-requires : tie.Need-any-requires
+any-requires c κs = search needs
+
 returns : tie.Need-returns
 unfolding xor
 returns c =
-    let r = c .before .before .before .before .before .before .before .before .before .before .before .before .before .before .before .before .before .args in
-    gate-by (r .operation) (r .a) (r .b) (c .before .before .before .from-bits .result) (r .carry) _ _ _ (c .before .before .before .before .before .before .before .before .before .before .before .before .before .before .before .control .result) _ _ _
-    (omega arith) (omega arith) (c .before .before .before .before .before .before .before .before .before .before .before .before .before .before .before .before .bit .ensures) (c .before .before .before .before .before .before .before .before .before .before .before .before .before .before .before .control .ensures)
-    (c .before .before .before .before .before .before .before .before .before .before .before .before .rows .ensures) (c .before .before .before .before .before .before .ripple .ensures) (c .before .before .before .from-bits .ensures) (c .before .before .bit2 .ensures)
+    let read = c .before .before .before .before .before in
+    let made = read .before .before .before .before .before .before .before .before .before in
+    let steered = made .before .before .before in
+    let args = steered .before .before .args in
+    gate-by (args .operation) (args .a) (args .b) (args .carry) (omega arith) (omega arith) (steered .before .bit .ensures)
+    (steered .control .ensures) (made .adder-rows .ensures) (read .before .before .before .ripple .ensures) (read .from-bits .ensures)
+    (c .before .before .before .before .bit2 .ensures) (c .any .ensures)
 
 pub gate-unit-spec : {M : Type 1} → statement M
 gate-unit-spec =
@@ -64,9 +73,9 @@ gate-unit-spec =
     (tie.spec
     bit-requires
     control-requires
-    slice-aggregate-rows
-    slice-aggregate-rows-2
-    rows-requires
+    slice-aggregate-adder-rows
+    slice-aggregate-adder-rows-2
+    adder-rows-requires
     slice-aggregate-ripple
     slice-aggregate-ripple-2
     slice-aggregate-ripple-3
@@ -77,4 +86,6 @@ gate-unit-spec =
     bit-requires-2
     array-read-t39
     array-read-t43
+    slice-aggregate-any
+    any-requires
     returns)

@@ -1,5 +1,5 @@
 use borrow.Author.Needs.{needs}
-use Rattle.host.proofs.Answers.{file-misfit, file-fits}
+use Rattle.host.proofs.Answers.{file-misfit, file-formed}
 use Rattle.host.proofs.fm8502_file_run.Statement.{statement}
 use Rattle.host.proofs.fm8502_file_run.Tie as tie
 
@@ -31,7 +31,11 @@ same-length-5 : tie.Need-same-length-5
 same-length-5 c = search needs
 
 returns-2 : tie.Need-returns-2
-returns-2 c = file-fits _ _ _ _ _ _ (c .before .before .before .before .before .before .before .before .before .before .before .before .before .before .before .before .machine-lent .ensures) (c .before .before .before .before .before .before .before .before .before .before .before .before .before .before .if1 .left) _ _ _ (c .before .before .before .before .before .before .before .before .before .before .before .file-run .ensures) _ _ _ (c .before .before .before .before .end-file-run .ensures)
+returns-2 c =
+    let ended = c .before .before .before .before in
+    let called = ended .before .before .before .before .before .before .before in
+    let tested = called .before .before .before in
+    file-formed _ _ _ _ _ _ (tested .before .before .machine-lent .ensures) (tested .if1 .left) _ _ _ (called .file-run .ensures) _ _ _ (ended .end-file-run .ensures)
 
 pub fm8502-file-run-spec : {M : Type 1} → statement M
 fm8502-file-run-spec =

@@ -1,5 +1,5 @@
 use borrow.Author.Needs.{needs}
-use Rattle.host.proofs.Answers.{gate-misfit, gate-fits}
+use Rattle.host.proofs.Answers.{gate-misfit, gate-formed}
 use Rattle.host.proofs.fm8502_gate_run.Statement.{statement}
 use Rattle.host.proofs.fm8502_gate_run.Tie as tie
 
@@ -28,7 +28,11 @@ same-length-4 : tie.Need-same-length-4
 same-length-4 c = search needs
 
 returns-2 : tie.Need-returns-2
-returns-2 c = gate-fits _ _ _ _ _ _ (c .before .before .before .before .before .before .before .before .before .before .before .before .before .state-lent .ensures) (c .before .before .before .before .before .before .before .before .before .before .before .if1 .left) _ _ (c .before .before .before .before .before .before .before .before .before .run .ensures) _ _ _ (c .before .before .before .before .end-gate-run .ensures)
+returns-2 c =
+    let ended = c .before .before .before .before in
+    let called = ended .before .before .before .before .before in
+    let tested = called .before .before in
+    gate-formed _ _ _ _ _ _ (tested .before .before .state-lent .ensures) (tested .if1 .left) _ _ (called .run .ensures) _ _ _ (ended .end-gate-run .ensures)
 
 pub fm8502-gate-run-spec : {M : Type 1} → statement M
 fm8502-gate-run-spec =

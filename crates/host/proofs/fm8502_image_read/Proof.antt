@@ -1,5 +1,5 @@
 use borrow.Author.Needs.{needs}
-use Rattle.host.proofs.Answers.{read-misfit, read-fits}
+use Rattle.host.proofs.Answers.{read-misfit, read-formed}
 use Rattle.host.proofs.fm8502_image_read.Statement.{statement}
 use Rattle.host.proofs.fm8502_image_read.Tie as tie
 
@@ -28,7 +28,11 @@ same-length-4 : tie.Need-same-length-4
 same-length-4 c = search needs
 
 returns-2 : tie.Need-returns-2
-returns-2 c = read-fits _ _ _ _ _ (c .before .before .before .before .before .before .before .before .before .before .before .before .before .machine-lent .ensures) (c .before .before .before .before .before .before .before .before .before .before .before .if1 .left) _ _ (c .before .before .before .before .before .before .before .before .before .read .ensures) _ _ _ (c .before .before .before .before .end-read .ensures)
+returns-2 c =
+    let ended = c .before .before .before .before in
+    let called = ended .before .before .before .before .before in
+    let tested = called .before .before in
+    read-formed _ _ _ _ _ (tested .before .before .machine-lent .ensures) (tested .if1 .left) _ _ (called .read .ensures) _ _ _ (ended .end-read .ensures)
 
 pub fm8502-image-read-spec : {M : Type 1} → statement M
 fm8502-image-read-spec =

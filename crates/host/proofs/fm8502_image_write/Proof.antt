@@ -1,5 +1,5 @@
 use borrow.Author.Needs.{needs}
-use Rattle.host.proofs.Answers.{write-misfit, write-fits}
+use Rattle.host.proofs.Answers.{write-misfit, write-formed}
 use Rattle.host.proofs.fm8502_image_write.Statement.{statement}
 use Rattle.host.proofs.fm8502_image_write.Tie as tie
 
@@ -22,7 +22,11 @@ same-length-2 : tie.Need-same-length-2
 same-length-2 c = search needs
 
 returns-2 : tie.Need-returns-2
-returns-2 c = write-fits _ _ _ _ _ (c .before .before .before .before .before .before .before .before .before .before .machine-lent .ensures) (c .before .before .before .before .before .before .before .before .if1 .left) _ _ (c .before .before .before .before .before .before .write .ensures) _ _ (c .before .before .end-write .ensures)
+returns-2 c =
+    let ended = c .before .before in
+    let called = ended .before .before .before .before in
+    let tested = called .before .before in
+    write-formed _ _ _ _ _ (tested .before .before .machine-lent .ensures) (tested .if1 .left) _ _ (called .write .ensures) _ _ (ended .end-write .ensures)
 
 pub fm8502-image-write-spec : {M : Type 1} → statement M
 fm8502-image-write-spec =

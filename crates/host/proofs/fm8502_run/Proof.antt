@@ -1,5 +1,5 @@
 use borrow.Author.Needs.{needs}
-use Rattle.host.proofs.Answers.{run-misfit, run-fits}
+use Rattle.host.proofs.Answers.{run-misfit, run-formed}
 use Rattle.host.proofs.fm8502_run.Statement.{statement}
 use Rattle.host.proofs.fm8502_run.Tie as tie
 
@@ -28,7 +28,11 @@ same-length-4 : tie.Need-same-length-4
 same-length-4 c = search needs
 
 returns-2 : tie.Need-returns-2
-returns-2 c = run-fits _ _ _ _ _ _ (c .before .before .before .before .before .before .before .before .before .before .before .before .before .machine-lent .ensures) (c .before .before .before .before .before .before .before .before .before .before .before .if1 .left) _ _ (c .before .before .before .before .before .before .before .before .before .run .ensures) _ _ _ (c .before .before .before .before .end-run .ensures)
+returns-2 c =
+    let ended = c .before .before .before .before in
+    let called = ended .before .before .before .before .before in
+    let tested = called .before .before in
+    run-formed _ _ _ _ _ _ (tested .before .before .machine-lent .ensures) (tested .if1 .left) _ _ (called .run .ensures) _ _ _ (ended .end-run .ensures)
 
 pub fm8502-run-spec : {M : Type 1} → statement M
 fm8502-run-spec =

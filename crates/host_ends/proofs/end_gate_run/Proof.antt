@@ -1,7 +1,7 @@
 use mathlib.Core.Path.{ap}
 use borrow.Author.Needs.{needs}
-use Rattle.host_ends.specs.Codes.{gateCode}
-use Rattle.host_ends.proofs.Ends.{ends-refused, ends-done}
+use Rattle.gate_machine.specs.Calls.{gateNumber}
+use Rattle.host_ends.proofs.Ends.{ends-refused, gate-done}
 use Rattle.host_ends.proofs.end_gate_run.Statement.{statement}
 use Rattle.host_ends.proofs.end_gate_run.Tie as tie
 
@@ -21,7 +21,7 @@ put-one-requires : tie.Need-put-one-requires
 put-one-requires c κs = search needs
 
 returns : tie.Need-returns
-returns c = ends-refused _ _ _ _ _ _ (ap gateCode (c .before .before .answer .given .1)) _ (c .refusal-number .ensures)
+returns c = ends-refused _ _ _ _ _ _ _ (c .before .before .answer .given .0 .0) (ap gateNumber (c .before .before .answer .given .1)) _ (c .refusal-number .ensures)
 
 same-length : tie.Need-same-length
 same-length c = search needs
@@ -30,7 +30,7 @@ same-length-2 : tie.Need-same-length-2
 same-length-2 c = search needs
 
 returns-2 : tie.Need-returns-2
-returns-2 c = ends-done _ _ _ _ _ (ap gateCode (c .before .before .before .before .before .before .before .before .enum-told .given .1)) _ _ (c .before .before .before .before .before .before .put-state .ensures) (c .before .before .put-one .ensures)
+returns-2 c = gate-done _ _ _ _ _ (c .before .before .before .before .before .before .before .before .enum-told .given .1) (c .before .before .before .before .before .before .put-state .ensures) (c .before .before .put-one .ensures)
 
 pub end-gate-run-spec : {M : Type 1} → statement M
 end-gate-run-spec =

@@ -1,11 +1,7 @@
-use mathlib.Core.Path.{sym, ap, _∙_}
-use mathlib.Core.List.{[], _∷_}
+use mathlib.Core.Path.{ap}
 use borrow.Author.Needs.{needs}
-use Rattle.image.specs.declared.ReadAnswer.{ReadAnswer}
-use Rattle.image.specs.Calls.{readCount}
-use Rattle.host_words.specs.Words.{laid}
-use Rattle.host_ends.specs.Codes.{readCode}
-use Rattle.host_ends.proofs.Ends.{ends-refused, ends-done}
+use Rattle.image.specs.Calls.{readNumber}
+use Rattle.host_ends.proofs.Ends.{ends-refused, read-done}
 use Rattle.host_ends.proofs.end_read.Statement.{statement}
 use Rattle.host_ends.proofs.end_read.Tie as tie
 
@@ -28,7 +24,7 @@ put-one-requires : tie.Need-put-one-requires
 put-one-requires c κs = search needs
 
 returns : tie.Need-returns
-returns c = ends-refused _ _ _ _ _ _ (ap readCode (c .before .before .answer .given .1)) _ (c .refusal-number .ensures)
+returns c = ends-refused _ _ _ _ _ _ _ (c .before .before .answer .given .0 .0) (ap readNumber (c .before .before .answer .given .1)) _ (c .refusal-number .ensures)
 
 same-length : tie.Need-same-length
 same-length c = search needs
@@ -37,7 +33,7 @@ same-length-2 : tie.Need-same-length-2
 same-length-2 c = search needs
 
 returns-2 : tie.Need-returns-2
-returns-2 c = ends-done _ _ _ _ _ (ap readCode (c .before .before .before .before .before .before .before .before .before .answer2 .given .1)) _ _ (c .before .before .before .before .before .before .put-machine .ensures) (c .before .before .put-one .ensures ∙ sym (ap (λ (x : ReadAnswer). laid 1 (readCount x ∷ []) (c .before .before .before .before .before .before .before .before .before .before .before .before .before .before .args .result .now)) (c .before .before .before .before .before .before .before .before .before .answer2 .given .1)))
+returns-2 c = read-done _ _ _ _ _ _ (c .before .before .before .before .before .before .before .before .before .answer2 .given .1) (c .before .before .before .before .before .before .put-machine .ensures) (c .before .before .put-one .ensures)
 
 pub end-read-spec : {M : Type 1} → statement M
 end-read-spec =

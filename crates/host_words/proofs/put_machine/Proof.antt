@@ -17,7 +17,10 @@ same-length : tie.Need-same-length
 same-length c = search needs
 
 returns : tie.Need-returns
-returns c = laid-over _ _ (c .before .before .before .before .before .before .before .before .args .machine .now) (c .before .before .before .before .before .before .if1 .taken) _ (c .before .before .copy-words .ensures ∙ c .before .before .before .before .before .machine-words .ensures)
+returns c =
+    let copied = c .before .before in
+    let made = copied .before .before .before in
+    laid-over _ _ (made .before .before .before .args .machine .now) (made .before .if1 .taken) _ (copied .copy-words .ensures ∙ made .machine-words .ensures)
 
 returns-2 : tie.Need-returns-2
 returns-2 c = laid-nowhere _ _ _ (c .if1 .left)

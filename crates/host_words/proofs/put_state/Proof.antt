@@ -55,9 +55,16 @@ same-length c = search needs
 
 returns : tie.Need-returns
 returns c =
-    let first = c .before .before .before .before .before .before .before .before .copy-words .ensures ∙ c .before .before .before .before .before .before .before .before .before .before .before .machine-words .ensures in
-    let second = c .before .before .copy-words2 .ensures ∙ c .before .before .before .before .before .latch-words .ensures in
-    laid-over _ _ (c .before .before .before .before .before .before .before .before .before .before .before .before .before .before .before .before .args .state .now) (c .before .before .before .before .before .before .before .before .before .before .before .before .before .before .if1 .taken) _ (parts-copied 12 (c .before .before .before .before .before .before .before .before .before .before .before .before .before .before .before .before .args .state .now) (c .before .before .before .before .before .before .before .before .copy-words .last .1 .0) (c .before .before .copy-words2 .last .1 .0) (ap length first ∙ machine-words-long _) ∙ ap₂ (λ (a b : List ℕ). a ++ b) first second)
+    let latched = c .before .before in
+    let copied = latched .before .before .before .before .before .before in
+    let made = copied .before .before .before in
+    let tested = made .before .before .before in
+    let lent : List ℕ = tested .before .before .args .state .now in
+    let first = copied .copy-words .ensures ∙ made .machine-words .ensures in
+    let second = latched .copy-words2 .ensures ∙ latched .before .before .before .latch-words .ensures in
+    laid-over _ _ lent (tested .if1 .taken) _
+    (parts-copied 12 lent (copied .copy-words .last .1 .0) (latched .copy-words2 .last .1 .0) (ap length first ∙ machine-words-long _)
+    ∙ ap₂ (λ (a b : List ℕ). a ++ b) first second)
 
 returns-2 : tie.Need-returns-2
 returns-2 c = laid-nowhere _ _ _ (c .if1 .left)

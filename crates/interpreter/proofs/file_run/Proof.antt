@@ -34,7 +34,7 @@ same-length-2 : tie.Need-same-length-2
 same-length-2 c = search needs
 
 returns : tie.Need-returns
-returns c = file-refused (c .before .before .before .before .before .before .before .before .args .memory .now) (c .before .before .before .before .before .before .before .before .args .journal .now) (c .before .before .before .before .before .before .before .before .args .start) (c .before .before .before .before .before .before .before .before .args .count) (c .before .why .given .1) (c .before .before .before .file-verdict .ensures)
+returns c = file-refused (c .before .before .before .file-verdict .ensures) (c .before .why .given .1)
 
 same-length-3 : tie.Need-same-length-3
 same-length-3 c = search needs
@@ -43,7 +43,10 @@ same-length-4 : tie.Need-same-length-4
 same-length-4 c = search needs
 
 returns-2 : tie.Need-returns-2
-returns-2 c = file-finished (c .before .before .before .before .before .before .before .before .before .before .before .before .before .before .before .before .before .before .args .memory .now) (c .before .before .before .before .before .before .before .before .before .before .before .before .before .before .before .before .before .before .args .journal .now) (c .before .before .before .before .before .before .before .before .before .before .before .before .before .before .before .before .before .before .args .start) (c .before .before .before .before .before .before .before .before .before .before .before .before .before .before .before .before .before .before .args .count) (c .before .before .before .before .before .before .before .before .before .before .before .enum-told .given .1) (c .before .before .before .before .before .before .before .before .before .before .before .before .before .file-verdict .ensures) (c .before .before .before .before .before .before .before .engine .ensures) (c .before .enum-told2 .given .1)
+returns-2 c =
+    let ran = c .before .before .before .before .before .before .before in
+    let told = ran .before .before .before .before in
+    file-finished (told .before .before .file-verdict .ensures) (told .enum-told .given .1) (ran .engine .ensures) (c .before .enum-told2 .given .1)
 
 same-length-5 : tie.Need-same-length-5
 same-length-5 c = search needs
@@ -52,7 +55,11 @@ same-length-6 : tie.Need-same-length-6
 same-length-6 c = search needs
 
 returns-3 : tie.Need-returns-3
-returns-3 c = file-undone (c .before .before .before .before .before .before .before .before .before .before .before .before .before .before .before .before .before .before .before .before .before .before .args .memory .now) (c .before .before .before .before .before .before .before .before .before .before .before .before .before .before .before .before .before .before .before .before .before .before .args .journal .now) (c .before .before .before .before .before .before .before .before .before .before .before .before .before .before .before .before .before .before .before .before .before .before .args .start) (c .before .before .before .before .before .before .before .before .before .before .before .before .before .before .before .before .before .before .before .before .before .before .args .count) (c .before .before .before .before .before .before .before .before .before .before .before .before .before .before .before .enum-told .given .1) (c .before .before .before .before .before .before .before .before .before .before .before .before .before .before .before .before .before .file-verdict .ensures) (c .before .before .before .before .before .before .before .before .before .before .before .engine .ensures) (c .before .before .before .before .before .enum-told3 .given .1) (c .before .before .undo .ensures)
+returns-3 c =
+    let ran = c .before .before .before .before .before .before .before .before .before .before .before in
+    let told = ran .before .before .before .before in
+    file-undone (told .before .before .file-verdict .ensures) (told .enum-told .given .1) (ran .engine .ensures)
+    (c .before .before .before .before .before .enum-told3 .given .1) (c .before .before .undo .ensures)
 
 pub file-run-spec : {M : Type 1} → statement M
 file-run-spec =

@@ -25,13 +25,16 @@ same-length : tie.Need-same-length
 same-length c = search needs
 
 returns : tie.Need-returns
-returns c = run-refused (c .before .before .before .before .before .before .before .args .memory .now) (c .before .before .before .before .before .before .before .args .waits .now) (c .before .before .before .before .before .before .before .args .start) (c .before .before .before .before .before .before .before .args .count) (c .before .why .given .1) (c .before .before .before .run-verdict .ensures)
+returns c = run-refused (c .before .before .before .run-verdict .ensures) (c .before .why .given .1)
 
 same-length-2 : tie.Need-same-length-2
 same-length-2 c = search needs
 
 returns-2 : tie.Need-returns-2
-returns-2 c = run-carried (c .before .before .before .before .before .before .before .before .before .before .before .before .before .before .args .memory .now) (c .before .before .before .before .before .before .before .before .before .before .before .before .before .before .args .waits .now) (c .before .before .before .before .before .before .before .before .before .before .before .before .before .before .args .start) (c .before .before .before .before .before .before .before .before .before .before .before .before .before .before .args .count) (c .before .before .before .before .before .before .before .before .enum-told .given .1) (c .before .before .before .before .before .before .before .before .before .before .run-verdict .ensures) (c .before .before .before .before .before .engine .ensures) (c .run-answer .ensures)
+returns-2 c =
+    let told = c .before .before .before .before .before .before .before .before in
+    run-carried (told .before .before .run-verdict .ensures) (told .enum-told .given .1) (c .before .before .before .before .before .engine .ensures)
+    (c .run-answer .ensures)
 
 pub run-spec : {M : Type 1} → statement M
 run-spec =

@@ -45,7 +45,9 @@ same-length-2 : tie.Need-same-length-2
 same-length-2 c = search needs
 
 returns-2 : tie.Need-returns-2
-returns-2 c = rw (c .before .before .store2 .ensures, c .before .before .before .wide2 .ensures, c .before .before .before .before .before .before .load .ensures, c .before .before .before .before .before .load2 .ensures)
+returns-2 c =
+    let at = c .before .before .before in
+    rw (c .before .before .store2 .ensures, at .wide2 .ensures, at .before .before .before .load .ensures, at .before .before .load2 .ensures)
 
 pub put-back-spec : {M : Type 1} → statement M
 put-back-spec =

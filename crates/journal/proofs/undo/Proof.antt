@@ -34,13 +34,19 @@ loop-less : tie.Need-loop-less Inv-loop μ-loop
 loop-less c = omega arith
 
 loop-again : tie.Need-loop-again Inv-loop μ-loop
-loop-again c = (omega arith, (c .before .before .put-back .kept .0 ∙ c .before .before .before .before .before .before .loop .inv .1 .0, rw (c .before .before .put-back .ensures, c .before .before .before .wide .ensures) (undone-more (c .before .before .before .before .before .before .loop .k) (c .before .before .before .before .before .before .before .before .before .args .journal .now) (c .before .before .before .before .before .before .loop .memory) (omega arith)) ∙ c .before .before .before .before .before .before .loop .inv .1 .1))
+loop-again c =
+    let put = c .before .before .put-back in
+    let l = c .before .before .before .before .before .before in
+    let more = undone-more (l .loop .k) (l .before .before .before .args .journal .now) (l .loop .memory) (omega arith) in
+    (omega arith, (put .kept .0 ∙ l .loop .inv .1 .0, rw (put .ensures, c .before .before .before .wide .ensures) more ∙ l .loop .inv .1 .1))
 
 same-length : tie.Need-same-length Inv-loop μ-loop
 same-length c = c .before .loop .inv .1 .0
 
 returns : tie.Need-returns Inv-loop μ-loop
-returns c = undone-none (c .before .loop .k) (c .before .before .before .before .args .journal .now) (c .before .loop .memory) (c .loop-test .left) ∙ c .before .loop .inv .1 .1
+returns c =
+    let l = c .before in
+    undone-none (l .loop .k) (l .before .before .before .args .journal .now) (l .loop .memory) (c .loop-test .left) ∙ l .loop .inv .1 .1
 
 pub undo-spec : {M : Type 1} → statement M
 undo-spec =

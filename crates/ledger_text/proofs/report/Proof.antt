@@ -1,13 +1,12 @@
 use mathlib.Core.Path.{sym}
 use lib.Seq.{length-take-le}
 use borrow.Author.Needs.{needs}
-use denote.Ref.{now}
 use Rattle.ledger_text.proofs.Answers.{report-no-room, within, runs, report-refused, report-carried}
 use Rattle.ledger_text.proofs.report.Statement.{statement}
 use Rattle.ledger_text.proofs.report.Tie as tie
 
 returns : tie.Need-returns
-returns c = report-no-room (now (c .before .before .before .before .args .bytes)) (now (c .before .before .before .before .args .memory)) (now (c .before .before .before .before .args .out)) (c .if1 .taken)
+returns c = report-no-room (c .if1 .taken)
 
 read-requires : tie.Need-read-requires
 read-requires c κs = search needs
@@ -25,13 +24,19 @@ cast-count : tie.Need-cast-count
 cast-count c = search needs
 
 slice-relend-prefix-put-run : tie.Need-slice-relend-prefix-put-run
-slice-relend-prefix-put-run c = within (now (c .before .before .before .before .before .before .before .before .before .before .before .before .args .bytes)) (now (c .before .before .before .before .before .before .before .before .before .before .before .before .args .memory)) (now (c .before .before .before .before .before .before .before .before .before .before .before .before .args .out)) (c .before .before .before .before .before .before .read .ensures) (c .before .before .answer2 .given .0 .0) (c .before .before .answer2 .given .1) (c .before .before .before .before .before .before .read .kept .1 .0)
+slice-relend-prefix-put-run c =
+    let read = c .before .before .before .before .before .before .read in
+    within (read .ensures) (c .before .before .answer2 .given .1) (read .kept .1 .0)
 
 slice-aggregate-put-run : tie.Need-slice-aggregate-put-run
-slice-aggregate-put-run c = sym (length-take-le _ _ (within (now (c .before .before .before .before .before .before .before .before .before .before .before .before .before .args .bytes)) (now (c .before .before .before .before .before .before .before .before .before .before .before .before .before .args .memory)) (now (c .before .before .before .before .before .before .before .before .before .before .before .before .before .args .out)) (c .before .before .before .before .before .before .before .read .ensures) (c .before .before .before .answer2 .given .0 .0) (c .before .before .before .answer2 .given .1) (c .before .before .before .before .before .before .before .read .kept .1 .0)))
+slice-aggregate-put-run c =
+    let read = c .before .before .before .before .before .before .before .read in
+    sym (length-take-le _ _ (within (read .ensures) (c .before .before .before .answer2 .given .1) (read .kept .1 .0)))
 
 put-run-requires : tie.Need-put-run-requires
-put-run-requires c κs = runs (now (c .before .before .before .before .before .before .before .before .before .before .before .before .before .before .args .bytes)) (now (c .before .before .before .before .before .before .before .before .before .before .before .before .before .before .args .memory)) (now (c .before .before .before .before .before .before .before .before .before .before .before .before .before .before .args .out)) (c .before .before .before .before .before .before .before .before .read .ensures) (c .before .before .before .before .answer2 .given .0 .0) (c .before .before .before .before .answer2 .given .1) (c .before .before .before .before .before .before .before .before .read .kept .1 .0)
+put-run-requires c κs =
+    let read = c .before .before .before .before .before .before .before .before .read in
+    runs (read .ensures) (c .before .before .before .before .answer2 .given .1) (read .kept .1 .0)
 
 same-length : tie.Need-same-length
 same-length c = search needs
@@ -40,7 +45,10 @@ same-length-2 : tie.Need-same-length-2
 same-length-2 c = search needs
 
 returns-2 : tie.Need-returns-2
-returns-2 c = report-refused (now (c .before .before .before .before .before .before .before .before .before .before .before .before .before .before .before .args .bytes)) (now (c .before .before .before .before .before .before .before .before .before .before .before .before .before .before .before .args .memory)) (now (c .before .before .before .before .before .before .before .before .before .before .before .before .before .before .before .args .out)) (c .before .before .before .before .before .before .before .before .before .read .ensures) (c .before .before .before .before .before .answer .given .0 .0) (c .before .before .before .before .before .answer .given .1) (c .before .before .before .before .before .before .before .before .before .before .before .if1 .left) (c .before .before .put-refused .ensures)
+returns-2 c =
+    let read = c .before .before .before .before .before .before .before .before .before in
+    report-refused (read .read .ensures) (c .before .before .before .before .before .answer .given .1) (read .before .before .if1 .left)
+    (c .before .before .put-refused .ensures)
 
 same-length-3 : tie.Need-same-length-3
 same-length-3 c = search needs
@@ -49,7 +57,12 @@ same-length-4 : tie.Need-same-length-4
 same-length-4 c = search needs
 
 returns-3 : tie.Need-returns-3
-returns-3 c = report-carried (now (c .before .before .before .before .before .before .before .before .before .before .before .before .before .before .before .before .before .before .before .args .bytes)) (now (c .before .before .before .before .before .before .before .before .before .before .before .before .before .before .before .before .before .before .before .args .memory)) (now (c .before .before .before .before .before .before .before .before .before .before .before .before .before .before .before .before .before .before .before .args .out)) (c .before .before .before .before .before .before .before .before .before .before .before .before .before .read .ensures) (c .before .before .before .before .before .before .before .before .before .answer2 .given .0 .0) (c .before .before .before .before .before .before .before .before .before .answer2 .given .1) (c .before .before .before .before .before .before .before .before .before .before .before .before .before .read .kept .1 .0) (c .before .before .before .before .before .before .before .before .before .before .before .before .before .before .before .if1 .left) (c .before .before .before .before .put-run .ensures) (c .before .before .before .before .put-run .kept .0)
+returns-3 c =
+    let put = c .before .before .before .before in
+    let told = put .before .before .before .before .before in
+    let read = told .before .before .before .before in
+    report-carried (read .read .ensures) (told .answer2 .given .1) (read .read .kept .1 .0) (read .before .before .if1 .left)
+    (put .put-run .ensures) (put .put-run .kept .0)
 
 pub report-spec : {M : Type 1} → statement M
 report-spec =

@@ -1,5 +1,5 @@
 use borrow.Author.Needs.{needs}
-use Rattle.step.proofs.Steps.{stepped-all, stopped}
+use Rattle.step.proofs.Steps.{stepped-all, step-stops}
 use Rattle.step.proofs.step.Statement.{statement}
 use Rattle.step.proofs.step.Tie as tie
 
@@ -16,7 +16,9 @@ same-length-2 : tie.Need-same-length-2
 same-length-2 c = search needs
 
 returns : tie.Need-returns
-returns c = stepped-all (c .before .before .before .before .before .before .before .before .before .before .before .before .before .before .args .regs .now) (c .before .before .before .before .before .before .before .before .before .before .before .before .before .before .args .memory .now) (c .before .before .before .before .before .before .before .before .before .before .before .before .before .before .args .journal .now) (c .before .before .before .before .before .before .before .before .before .before .before .before .before .before .args .pairs) (c .before .before .before .before .before .before .before .before .before .before .before .before .before .before .args .flags) (c .before .before .before .before .before .before .before .before .before .fetch .ensures) (c .before .before .before .before .before .before .before .before .if1 .taken) (c .before .before .before .before .finish .ensures)
+returns c =
+    let taken = c .before .before .before .before .before .before .before .before in
+    stepped-all (taken .before .fetch .ensures) (taken .if1 .taken) (c .before .before .before .before .finish .ensures)
 
 outside-requires : tie.Need-outside-requires
 outside-requires c κs = search needs
@@ -25,7 +27,7 @@ same-length-3 : tie.Need-same-length-3
 same-length-3 c = search needs
 
 returns-2 : tie.Need-returns-2
-returns-2 c = stopped (c .before .before .before .before .before .before .before .args .regs .now) (c .before .before .before .before .before .before .before .args .memory .now) (c .before .before .before .before .before .before .before .args .journal .now) (c .before .before .before .before .before .before .before .args .pairs) (c .before .before .before .before .before .before .before .args .flags) (c .before .before .fetch .ensures) (c .before .if1 .left) (c .outside .ensures)
+returns-2 c = step-stops (c .before .before .fetch .ensures) (c .before .if1 .left) (c .outside .ensures)
 
 pub step-spec : {M : Type 1} → statement M
 step-spec =

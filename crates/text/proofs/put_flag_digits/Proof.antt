@@ -25,7 +25,8 @@ same-length c = search needs
 
 returns : tie.Need-returns
 returns c =
-    rw (c .before .before .before .before .before .before .before .before .flag-digit .ensures, c .before .before .before .before .before .before .before .flag-digit2 .ensures, c .before .before .before .before .before .before .flag-digit3 .ensures, c .before .before .before .before .before .flag-digit4 .ensures)
+    let z = c .before .before .before .before .before in
+    rw (z .before .before .before .flag-digit .ensures, z .before .before .flag-digit2 .ensures, z .before .flag-digit3 .ensures, z .flag-digit4 .ensures)
     at (c .before .before .put-text .ensures)
 
 pub put-flag-digits-spec : {M : Type 1} → statement M

@@ -42,10 +42,12 @@ loop-again c =
     let text : List ℕ = now (a .text) in
     let i : ℕ = at .i in
     let byte : ℕ = getD text i 0 in
-    let rest : drop i text ≡ byte ∷ drop (i + 1) text = rw add-one (drop-cons text i 0 (c .before .before .before .before .before .loop-test .taken)) in (
+    let rest : drop i text ≡ byte ∷ drop (i + 1) text =
+    rw add-one (drop-cons text i 0 (c .before .before .before .before .before .loop-test .taken)) in (
       omega arith,
       c .before .before .put-byte .kept .0 ∙ at .inv .1,
-      store-step (at .out) _ (a .at + i) (a .at + (i + 1)) (byte ∷ []) (drop (i + 1) text) _ (c .before .before .put-byte .ensures) (omega arith) (ap (sets (at .out) (a .at + i)) (sym rest) ∙ at .inv .2),
+      store-step (at .out) _ (a .at + i) (a .at + (i + 1)) (byte ∷ []) (drop (i + 1) text) _ (c .before .before .put-byte .ensures) (omega arith)
+          (ap (sets (at .out) (a .at + i)) (sym rest) ∙ at .inv .2),
     )
 
 same-length : tie.Need-same-length Inv-loop μ-loop
@@ -58,7 +60,9 @@ returns c =
     record { buffer = rw (drop-of-length-le (now (a .text)) {i = at .i} (c .loop-test .left)) at (at .inv .2); size = refl }
 
 returns-2 : tie.Need-returns-2 Inv-loop μ-loop
-returns-2 c = record { buffer = sym (sets-out (now (c .before .before .before .args .out)) (c .before .before .before .args .at) (now (c .before .before .before .args .text)) (c .if1 .left)); size = refl }
+returns-2 c =
+    let args = c .before .before .before .args in
+    record { buffer = sym (sets-out (now (args .out)) (args .at) (now (args .text)) (c .if1 .left)); size = refl }
 
 pub put-text-spec : {M : Type 1} → statement M
 put-text-spec =

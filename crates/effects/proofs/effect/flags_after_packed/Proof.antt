@@ -1,5 +1,5 @@
 use borrow.Author.Needs.{needs}
-use Rattle.model.proofs.Packed.{sets}
+use Rattle.model.proofs.Packed.{flags-set}
 use Rattle.effects.proofs.effect.flags_after_packed.Statement.{statement}
 use Rattle.effects.proofs.effect.flags_after_packed.Tie as tie
 
@@ -10,7 +10,7 @@ sub-result : tie.Need-sub-result
 sub-result c = search needs
 
 returns : tie.Need-returns
-returns c = sets (c .before .before .before .args .word) (c .before .before .before .args .flags) (c .before .before .before .args .out) (c .packed .ensures)
+returns c = flags-set (c .before .args .word) (c .before .args .flags) (c .before .args .out) (c .packed .ensures)
 
 pub flags-after-packed-spec : {M : Type 1} → statement M
 flags-after-packed-spec = tie.close (tie.spec packed-requires sub-result returns)

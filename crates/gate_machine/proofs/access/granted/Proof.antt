@@ -20,7 +20,11 @@ untouched-requires-2 c κs = search needs
 
 returns-2 : tie.Need-returns-2
 unfolding grantOf
-returns-2 c = rw (not-false (c .before .before .before .before .before .args .access) (c .before .before .before .if1 .left), le-ltb (c .before .before .before .before .before .args .s .address) (c .before .before .before .before .before .args .words) (rw (c .before .before .wide .ensures) at (c .before .if2 .taken))) (c .untouched2 .ensures)
+returns-2 c =
+    let wide = c .before .before in
+    let access = not-false (wide .before .before .before .args .access) (wide .before .if1 .left) in
+    let absent = le-ltb _ _ (rw (wide .wide .ensures) at (c .before .if2 .taken)) in
+    rw (access, absent) (c .untouched2 .ensures)
 
 one-less-requires : tie.Need-one-less-requires
 one-less-requires c κs = search needs
@@ -30,7 +34,11 @@ acknowledged-requires c κs = search needs
 
 returns-3 : tie.Need-returns-3
 unfolding grantOf remaining positionNow
-returns-3 c = rw (not-false (c .before .before .before .before .before .before .before .args .access) (c .before .before .before .before .before .if1 .left), lt-ltb (c .before .before .before .before .before .before .before .args .s .address) (c .before .before .before .before .before .before .before .args .words) (rw (c .before .before .before .before .wide .ensures) at (c .before .before .before .if2 .left)), c .before .before .if3 .taken, ← (c .before .one-less .ensures)) (c .acknowledged .ensures)
+returns-3 c =
+    let wide = c .before .before .before .before in
+    let access = not-false (wide .before .before .before .args .access) (wide .before .if1 .left) in
+    let there = lt-ltb _ _ (rw (wide .wide .ensures) at (c .before .before .before .if2 .left)) in
+    rw (access, there, c .before .before .if3 .taken, ← (c .before .one-less .ensures)) (c .acknowledged .ensures)
 
 wait-at-requires : tie.Need-wait-at-requires
 wait-at-requires c κs = search needs
@@ -43,7 +51,12 @@ acknowledged-requires-2 c κs = search needs
 
 returns-4 : tie.Need-returns-4
 unfolding grantOf remaining positionNow
-returns-4 c = rw (not-false (c .before .before .before .before .before .before .before .before .args .access) (c .before .before .before .before .before .before .if1 .left), lt-ltb (c .before .before .before .before .before .before .before .before .args .s .address) (c .before .before .before .before .before .before .before .before .args .words) (rw (c .before .before .before .before .before .wide .ensures) at (c .before .before .before .before .if2 .left)), c .before .before .before .if3 .left, ← (c .before .next-position .ensures), ← (c .before .before .wait-at .ensures)) (c .acknowledged2 .ensures)
+returns-4 c =
+    let wide = c .before .before .before .before .before in
+    let access = not-false (wide .before .before .before .args .access) (wide .before .if1 .left) in
+    let there = lt-ltb _ _ (rw (wide .wide .ensures) at (c .before .before .before .before .if2 .left)) in
+    rw (access, there, c .before .before .before .if3 .left, ← (c .before .next-position .ensures), ← (c .before .before .wait-at .ensures))
+    (c .acknowledged2 .ensures)
 
 pub granted-spec : {M : Type 1} → statement M
 granted-spec =

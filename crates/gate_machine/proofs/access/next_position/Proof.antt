@@ -1,5 +1,4 @@
 use mathlib.Core.Path.{sym}
-use lib.ListN.{length}
 use borrow.Author.Tests.{lt-ltb}
 use borrow.Author.Needs.{needs}
 use Rattle.model.specs.Waits.{nextPosition}
@@ -15,10 +14,12 @@ add-result c = search needs
 
 returns : tie.Need-returns
 unfolding nextPosition
-returns c = rw (lt-ltb (c .before .before .before .args .position) (length (c .before .before .before .args .waits .now)) (rw (c .before .wide .ensures) at (c .if1 .taken)))
+returns c = rw (lt-ltb _ _ (rw (c .before .wide .ensures) at (c .if1 .taken)))
 
 returns-2 : tie.Need-returns-2
-returns-2 c = sym (next-stays (c .before .before .before .args .waits .now) (c .before .before .before .args .position) (rw (c .before .wide .ensures) at (c .if1 .left)))
+returns-2 c =
+    let args = c .before .before .before .args in
+    sym (next-stays (args .waits .now) (args .position) (rw (c .before .wide .ensures) at (c .if1 .left)))
 
 pub next-position-spec : {M : Type 1} → statement M
 next-position-spec = tie.close (tie.spec wide-requires add-result returns returns-2)

@@ -19,7 +19,9 @@ unfolding waitAt
 returns c = rw (c .before .before .wide .ensures)
 
 returns-2 : tie.Need-returns-2
-returns-2 c = sym (no-wait (c .before .before .before .args .waits .now) (c .before .before .before .args .position) (rw (c .before .wide .ensures) at (c .if1 .left)))
+returns-2 c =
+    let args = c .before .before .before .args in
+    sym (no-wait (args .waits .now) (args .position) (rw (c .before .wide .ensures) at (c .if1 .left)))
 
 pub wait-at-spec : {M : Type 1} → statement M
 wait-at-spec =

@@ -1,26 +1,35 @@
-use Prim.Native.Nat.{ℕ, _≤_, _+_, _-_}
-use mathlib.Core.Path.{_≡_, refl, ap, _∙_}
+use Prim.Native.Nat.{_+_, _^_, _≤_, _<_, _-_}
+use mathlib.Core.Path.{_≡_, refl, _∙_}
 use native.Mathlib.Omega.{arith}
 use lib.ListN.{length}
 use borrow.Author.Needs.{needs}
 use Rattle.arithmetic.proofs.Bits.{bit-le}
-use Rattle.model.specs.declared.GateState.{GateState}
 use Rattle.model.specs.Agreement.{gateFrom}
-use Rattle.model.specs.GateMachine.{Gate, gate, gateRun}
+use Rattle.model.specs.GateMachine.{gate, gateRun}
 use Rattle.model.proofs.Valid.{short, row-there}
-use Rattle.model.proofs.Progress.{finished-slow}
-use Rattle.model.proofs.Blocked.{stands-on}
 use Rattle.step_table.proofs.Table.{step-there}
 use Rattle.gate_rows.specs.Work.{stateOf}
-use Rattle.gate_machine.proofs.Turns.{turn}
+use Rattle.gate_machine.proofs.Turns.{done-bounds, turn, finished-le, run-ends}
 use Rattle.gate_machine.proofs.machine.run_clocks.Statement.{statement}
 use Rattle.gate_machine.proofs.machine.run_clocks.Tie as tie
 
 abbrev Inv-loop : tie.InvT-loop
-Inv-loop memory₀ waits clocks table regs₀ s₀ finished₀ i₀ memory regs s finished i = (i ≤ clocks) × (length memory ≡ length memory₀) × (gate (stateOf regs s) memory finished ≡ gateRun waits i (gateFrom (stateOf regs₀ s₀) memory₀))
+Inv-loop memory₀ waits clocks table regs₀ s₀ finished₀ i₀ memory regs s finished i =
+    (i ≤ clocks) × (length memory ≡ length memory₀) × (gate (stateOf regs s) memory finished ≡ gateRun waits i (gateFrom (stateOf regs₀ s₀) memory₀))
 
 abbrev μ-loop : tie.MeasureT-loop
 μ-loop memory₀ waits clocks table regs₀ s₀ finished₀ i₀ memory regs s finished i = clocks - i
+
+-- the row that the loop has come to is one of the table
+row-at : (l : tie.At-loop Inv-loop μ-loop) → l .loop .s .row < 12
+row-at l =
+    let start = l .before .before .before .before .before .before in
+    row-there _ _ (stateOf (start .args .start .regs) (l .before .latches-of .result)) (rw (l .before .latches-of .ensures) (start .pre)) _
+    (l .loop .inv .2)
+
+-- no clock finishes more than one instruction, so that the count has room for one more
+room-at : (t : tie.In-loop Inv-loop μ-loop) → t .before .loop .finished + 1 < 2 ^ 64
+room-at t = omega (arith, finished-le _ _ _ _ (t .before .loop .inv .2), t .before .before .before .before .before .before .before .fits .clocks)
 
 steps-requires : tie.Need-steps-requires Inv-loop μ-loop
 steps-requires c κs = search needs
@@ -33,49 +42,55 @@ unfolding gateRun
 loop-holds c = (omega arith, refl, refl)
 
 cast-step : tie.Need-cast-step Inv-loop μ-loop
-cast-step c = omega (arith, row-there (c .before .before .before .before .before .before .before .before .args .memory .now) (c .before .before .before .before .before .before .before .before .args .waits .now) (stateOf (c .before .before .before .before .before .before .before .before .args .start .regs) (c .before .before .before .latches-of .result)) (rw (c .before .before .before .latches-of .ensures) (c .before .before .before .before .before .before .before .before .pre)) (c .before .before .loop .i) (c .before .before .loop .inv .2))
+cast-step c = omega (arith, row-at (c .before .before))
 
 mul-step : tie.Need-mul-step Inv-loop μ-loop
-mul-step c = omega (arith, row-there (c .before .before .before .before .before .before .before .before .args .memory .now) (c .before .before .before .before .before .before .before .before .args .waits .now) (stateOf (c .before .before .before .before .before .before .before .before .args .start .regs) (c .before .before .before .latches-of .result)) (rw (c .before .before .before .latches-of .ensures) (c .before .before .before .before .before .before .before .before .pre)) (c .before .before .loop .i) (c .before .before .loop .inv .2))
+mul-step c = omega (arith, row-at (c .before .before))
 
 array-copy-out-step : tie.Need-array-copy-out-step Inv-loop μ-loop
-array-copy-out-step c = omega (arith, row-there (c .before .before .before .before .before .before .before .before .args .memory .now) (c .before .before .before .before .before .before .before .before .args .waits .now) (stateOf (c .before .before .before .before .before .before .before .before .args .start .regs) (c .before .before .before .latches-of .result)) (rw (c .before .before .before .latches-of .ensures) (c .before .before .before .before .before .before .before .before .pre)) (c .before .before .loop .i) (c .before .before .loop .inv .2))
+array-copy-out-step c = omega (arith, row-at (c .before .before))
 
 tick-requires : tie.Need-tick-requires Inv-loop μ-loop
-tick-requires c κs = (step-there (c .before .before .before .before .before .before .before .before .steps .ensures) refl (row-there (c .before .before .before .before .before .before .before .before .before .before .before .args .memory .now) (c .before .before .before .before .before .before .before .before .before .before .before .args .waits .now) (stateOf (c .before .before .before .before .before .before .before .before .before .before .before .args .start .regs) (c .before .before .before .before .before .before .latches-of .result)) (rw (c .before .before .before .before .before .before .latches-of .ensures) (c .before .before .before .before .before .before .before .before .before .before .before .pre)) (c .before .before .before .before .before .loop .i) (c .before .before .before .before .before .loop .inv .2)) _, short (c .before .before .before .before .before .before .before .before .before .before .before .args .memory .now) (c .before .before .before .before .before .before .before .before .before .before .before .args .waits .now) (c .before .before .before .before .before .before .before .before .before .before .before .args .start) (c .before .before .before .before .before .before .before .before .before .before .before .pre))
+tick-requires c κs =
+    let l = c .before .before .before .before .before in
+    let start = l .before .before .before .before .before .before in
+    (step-there (l .before .before .before .steps .ensures) refl (row-at l) _, short _ _ (start .args .start) (start .pre))
 
 cast-finished : tie.Need-cast-finished Inv-loop μ-loop
 cast-finished c = tt
 
 add-finished : tie.Need-add-finished Inv-loop μ-loop
-add-finished c = omega (arith, ap (λ (x : Gate). x .finished) (c .before .before .before .before .before .before .before .before .before .before .loop .inv .2), finished-slow (c .before .before .before .before .before .before .before .before .before .before .before .before .before .before .before .before .args .waits .now) (c .before .before .before .before .before .before .before .before .before .before .loop .i) (gateFrom (stateOf (c .before .before .before .before .before .before .before .before .before .before .before .before .before .before .before .before .args .start .regs) (c .before .before .before .before .before .before .before .before .before .before .before .latches-of .result)) (c .before .before .before .before .before .before .before .before .before .before .before .before .before .before .before .before .args .memory .now)), bit-le (c .before .before .before .before .tick .result .finished), c .before .before .before .before .before .before .before .before .before .before .before .before .before .before .before .before .fits .clocks)
+add-finished c = omega (arith, room-at (c .before .before .before .before .before .before .before .before .before), bit-le (c .before .before .before .before .tick .result .finished))
 
-add-i : tie.Need-add-i Inv-loop μ-loop
-add-i c = omega (arith, c .before .before .before .before .before .before .before .before .before .loop-test .taken, c .before .before .before .before .before .before .before .before .before .before .before .before .before .before .before .before .fits .clocks)
+clocks-done-requires : tie.Need-clocks-done-requires Inv-loop μ-loop
+clocks-done-requires c κs = c .before .before .before .before .before .before .before .before .before .loop-test .taken
+
+loop-less : tie.Need-loop-less Inv-loop μ-loop
+loop-less c =
+    let t = c .before .before .before .before .before .tick in
+    omega (arith, done-bounds (c .before .before .before .before .before .before .before .before .before .before .loop-test .taken) (t .result .stuck) (c .clocks-done .ensures))
+
+loop-again : tie.Need-loop-again Inv-loop μ-loop
+loop-again c =
+    let entered = c .before .before .before .before .before .before .before .before .before .before in
+    let l = entered .before in
+    let t = c .before .before .before .before .before .tick in (
+      done-bounds (entered .loop-test .taken) (t .result .stuck) (c .clocks-done .ensures) .1,
+      t .kept .1 .1 .1 .0 ∙ l .loop .inv .1,
+      turn _ _ _ _ (l .loop .inv .2) (entered .loop-test .taken) (t .result .finished) (t .result .stuck) (t .ensures .0) (t .ensures .1)
+          (c .clocks-done .ensures),
+    )
 
 state-of-requires : tie.Need-state-of-requires Inv-loop μ-loop
 state-of-requires c κs = search needs
 
 same-length : tie.Need-same-length Inv-loop μ-loop
-same-length c = c .before .before .before .before .before .before .tick .kept .1 .1 .1 .0 ∙ c .before .before .before .before .before .before .before .before .before .before .before .before .loop .inv .1
+same-length c = c .before .before .loop .inv .1
 
 returns : tie.Need-returns Inv-loop μ-loop
-returns c = rw (c .state-of .ensures) (stands-on (c .before .before .before .before .before .before .before .before .before .before .before .before .before .before .before .before .before .before .args .waits .now) (c .before .before .before .before .before .before .before .before .before .before .before .before .loop .i + 1) (c .before .before .before .before .before .before .before .before .before .before .before .before .before .before .before .before .before .before .args .clocks) (gateFrom (stateOf (c .before .before .before .before .before .before .before .before .before .before .before .before .before .before .before .before .before .before .args .start .regs) (c .before .before .before .before .before .before .before .before .before .before .before .before .before .latches-of .result)) (c .before .before .before .before .before .before .before .before .before .before .before .before .before .before .before .before .before .before .args .memory .now)) (turn (c .before .before .before .before .before .before .before .before .before .before .before .before .before .before .before .before .before .before .args .waits .now) (c .before .before .before .before .before .before .before .before .before .before .before .before .loop .i) (gateFrom (stateOf (c .before .before .before .before .before .before .before .before .before .before .before .before .before .before .before .before .before .before .args .start .regs) (c .before .before .before .before .before .before .before .before .before .before .before .before .before .latches-of .result)) (c .before .before .before .before .before .before .before .before .before .before .before .before .before .before .before .before .before .before .args .memory .now)) (c .before .before .before .before .before .before .before .before .before .before .before .before .loop .inv .2) (c .before .before .before .before .before .before .tick .result .finished) (c .before .before .before .before .before .before .tick .ensures .0) refl) (c .before .before .before .before .before .before .tick .ensures .1 (c .before .if1 .taken) _) (omega (arith, c .before .before .before .before .before .before .before .before .before .before .before .loop-test .taken)) ∙ ap (λ (s : GateState). gateRun (c .before .before .before .before .before .before .before .before .before .before .before .before .before .before .before .before .before .before .args .waits .now) (c .before .before .before .before .before .before .before .before .before .before .before .before .before .before .before .before .before .before .args .clocks) (gateFrom s (c .before .before .before .before .before .before .before .before .before .before .before .before .before .before .before .before .before .before .args .memory .now))) (c .before .before .before .before .before .before .before .before .before .before .before .before .before .latches-of .ensures))
-
-loop-less : tie.Need-loop-less Inv-loop μ-loop
-loop-less c = omega arith
-
-loop-again : tie.Need-loop-again Inv-loop μ-loop
-loop-again c = (omega arith, c .before .before .before .before .before .tick .kept .1 .1 .1 .0 ∙ c .before .before .before .before .before .before .before .before .before .before .before .loop .inv .1, turn (c .before .before .before .before .before .before .before .before .before .before .before .before .before .before .before .before .before .args .waits .now) (c .before .before .before .before .before .before .before .before .before .before .before .loop .i) (gateFrom (stateOf (c .before .before .before .before .before .before .before .before .before .before .before .before .before .before .before .before .before .args .start .regs) (c .before .before .before .before .before .before .before .before .before .before .before .before .latches-of .result)) (c .before .before .before .before .before .before .before .before .before .before .before .before .before .before .before .before .before .args .memory .now)) (c .before .before .before .before .before .before .before .before .before .before .before .loop .inv .2) (c .before .before .before .before .before .tick .result .finished) (c .before .before .before .before .before .tick .ensures .0) refl)
-
-state-of-requires-2 : tie.Need-state-of-requires-2 Inv-loop μ-loop
-state-of-requires-2 c κs = search needs
-
-same-length-2 : tie.Need-same-length-2 Inv-loop μ-loop
-same-length-2 c = c .before .before .loop .inv .1
-
-returns-2 : tie.Need-returns-2 Inv-loop μ-loop
-returns-2 c = ap (λ (s : GateState). gate s (c .before .before .loop .memory) (c .before .before .loop .finished)) (c .state-of2 .ensures) ∙ c .before .before .loop .inv .2 ∙ ap (λ (x : ℕ). gateRun (c .before .before .before .before .before .before .before .before .args .waits .now) x (gateFrom (stateOf (c .before .before .before .before .before .before .before .before .args .start .regs) (c .before .before .before .latches-of .result)) (c .before .before .before .before .before .before .before .before .args .memory .now))) (omega arith) ∙ ap (λ (s : GateState). gateRun (c .before .before .before .before .before .before .before .before .args .waits .now) (c .before .before .before .before .before .before .before .before .args .clocks) (gateFrom s (c .before .before .before .before .before .before .before .before .args .memory .now))) (c .before .before .before .latches-of .ensures)
+returns c =
+    let l = c .before .before in
+    run-ends _ _ _ _ (l .loop .inv .2) (l .loop .inv .0) (c .before .loop-test .left) (l .before .latches-of .ensures) (c .state-of .ensures)
 
 pub run-clocks-spec : {M : Type 1} → statement M
 run-clocks-spec =
@@ -92,12 +107,9 @@ run-clocks-spec =
     tick-requires
     cast-finished
     add-finished
-    add-i
-    state-of-requires
-    same-length
-    returns
+    clocks-done-requires
     loop-less
     loop-again
-    state-of-requires-2
-    same-length-2
-    returns-2)
+    state-of-requires
+    same-length
+    returns)

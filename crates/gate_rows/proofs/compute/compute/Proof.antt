@@ -21,7 +21,17 @@ chosen-requires : tie.Need-chosen-requires
 chosen-requires c κs = search needs
 
 returns : tie.Need-returns
-returns c = λ regs. rw (c .chosen .ensures, c .before .in-memory .ensures, c .before .before .operand-b .ensures, c .before .before .before .stores-apart .ensures, c .before .before .before .before .flags-after-apart .ensures, c .before .before .before .before .before .unit-of .ensures)
+returns c =
+    λ regs.
+    let apart = c .before .before .before in
+    rw (
+      c .chosen .ensures,
+      c .before .in-memory .ensures,
+      c .before .before .operand-b .ensures,
+      apart .stores-apart .ensures,
+      apart .before .flags-after-apart .ensures,
+      apart .before .before .unit-of .ensures,
+    )
 
 pub compute-spec : {M : Type 1} → statement M
 compute-spec =

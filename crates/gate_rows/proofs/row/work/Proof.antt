@@ -1,9 +1,6 @@
 use mathlib.Core.Path.{refl, _∙_}
 use borrow.Author.Needs.{needs}
-use Rattle.model.specs.GateMachine.{withA, withB}
-use Rattle.model.specs.Operands.{operandA, operandB}
-use Rattle.gate_rows.specs.Work.{stateOf}
-use Rattle.gate_rows.proofs.Rows.{by, past, prepares}
+use Rattle.gate_rows.proofs.Rows.{by, by-3, by-5, past-table}
 use Rattle.gate_rows.proofs.row.work.Statement.{statement}
 use Rattle.gate_rows.proofs.row.work.Tie as tie
 
@@ -98,55 +95,69 @@ moved-requires-5 : tie.Need-moved-requires-5
 moved-requires-5 c κs = search needs
 
 returns : tie.Need-returns
-returns c = by (c .before .before .before .before .args .s) (c .before .before .before .before .args .step) (c .before .before .before .before .args .regs .now) (c .before .before .before .before .args .memory .now) 0 (c .before .before .match .keys1) (c .latch-address .ensures _) refl
+returns c = by 0 (c .before .before .match .keys1) (c .latch-address .ensures _) refl
 
 same-length : tie.Need-same-length
 same-length c = search needs
 
 returns-2 : tie.Need-returns-2
-returns-2 c = by (c .before .before .before .before .before .before .args .s) (c .before .before .before .before .before .before .args .step) (c .before .before .before .before .before .before .args .regs .now) (c .before .before .before .before .before .before .args .memory .now) 1 (c .before .before .before .before .match .keys2) (c .latch-instruction .ensures _ ∙ rw (c .before .load .ensures, c .before .before .wide .ensures)) refl
+returns-2 c =
+    by 1 (c .before .before .before .before .match .keys2)
+    (c .latch-instruction .ensures _ ∙ rw (c .before .load .ensures, c .before .before .wide .ensures)) refl
 
 returns-3 : tie.Need-returns-3
-returns-3 c = by (c .before .before .before .before .before .args .s) (c .before .before .before .before .before .args .step) (c .before .before .before .before .before .args .regs .now) (c .before .before .before .before .before .args .memory .now) 2 (c .before .before .before .match .keys3) (c .moved .ensures _ ∙ rw (c .before .step-pc .ensures)) refl
+returns-3 c = by 2 (c .before .before .before .match .keys3) (c .moved .ensures _ ∙ rw (c .before .step-pc .ensures)) refl
 
 returns-4 : tie.Need-returns-4
-returns-4 c = by (c .before .before .before .before .before .args .s) (c .before .before .before .before .before .args .step) (c .before .before .before .before .before .args .regs .now) (c .before .before .before .before .before .args .memory .now) 3 (c .before .before .before .match .keys4) (rw (c .before .before .operand-a .ensures) at (c .prepare .ensures) ∙ prepares (c .before .before .before .before .before .args .step) (operandA (c .before .before .before .before .before .args .s .instruction)) withA (stateOf (c .before .before .before .before .before .args .regs .now) (c .before .before .before .before .before .args .s)) 4 5) refl
+returns-4 c = by-3 (c .before .before .before .match .keys4) (c .before .before .operand-a .ensures) (c .prepare .ensures)
 
 same-length-2 : tie.Need-same-length-2
 same-length-2 c = search needs
 
 returns-5 : tie.Need-returns-5
-returns-5 c = by (c .before .before .before .before .before .before .args .s) (c .before .before .before .before .before .before .args .step) (c .before .before .before .before .before .before .args .regs .now) (c .before .before .before .before .before .before .args .memory .now) 4 (c .before .before .before .before .match .keys5) (c .latch-a .ensures _ ∙ rw (c .before .load2 .ensures, c .before .before .wide2 .ensures)) refl
+returns-5 c =
+    by 4 (c .before .before .before .before .match .keys5)
+    (c .latch-a .ensures _ ∙ rw (c .before .load2 .ensures, c .before .before .wide2 .ensures)) refl
 
 returns-6 : tie.Need-returns-6
-returns-6 c = by (c .before .before .before .before .before .args .s) (c .before .before .before .before .before .args .step) (c .before .before .before .before .before .args .regs .now) (c .before .before .before .before .before .args .memory .now) 5 (c .before .before .before .match .keys6) (rw (c .before .before .operand-b .ensures) at (c .prepare2 .ensures) ∙ prepares (c .before .before .before .before .before .args .step) (operandB (c .before .before .before .before .before .args .s .instruction)) withB (stateOf (c .before .before .before .before .before .args .regs .now) (c .before .before .before .before .before .args .s)) 6 7) refl
+returns-6 c = by-5 (c .before .before .before .match .keys6) (c .before .before .operand-b .ensures) (c .prepare2 .ensures)
 
 same-length-3 : tie.Need-same-length-3
 same-length-3 c = search needs
 
 returns-7 : tie.Need-returns-7
-returns-7 c = by (c .before .before .before .before .before .before .args .s) (c .before .before .before .before .before .before .args .step) (c .before .before .before .before .before .before .args .regs .now) (c .before .before .before .before .before .before .args .memory .now) 6 (c .before .before .before .before .match .keys7) (c .latch-b .ensures _ ∙ rw (c .before .load3 .ensures, c .before .before .wide3 .ensures)) refl
+returns-7 c =
+    by 6 (c .before .before .before .before .match .keys7)
+    (c .latch-b .ensures _ ∙ rw (c .before .load3 .ensures, c .before .before .wide3 .ensures)) refl
 
 returns-8 : tie.Need-returns-8
-returns-8 c = by (c .before .before .before .args .s) (c .before .before .before .args .step) (c .before .before .before .args .regs .now) (c .before .before .before .args .memory .now) 7 (c .before .match .keys8) (c .compute .ensures _) refl
+returns-8 c = by 7 (c .before .match .keys8) (c .compute .ensures _) refl
 
 returns-9 : tie.Need-returns-9
-returns-9 c = by (c .before .before .before .before .before .before .args .s) (c .before .before .before .before .before .before .args .step) (c .before .before .before .before .before .before .args .regs .now) (c .before .before .before .before .before .before .args .memory .now) 8 (c .before .before .before .before .match .keys9) (c .moved2 .ensures _ ∙ rw (c .before .set-register .ensures, c .before .before .before .operand-b2 .ensures)) refl
+returns-9 c =
+    by 8 (c .before .before .before .before .match .keys9)
+    (c .moved2 .ensures _ ∙ rw (c .before .set-register .ensures, c .before .before .before .operand-b2 .ensures)) refl
 
 same-length-4 : tie.Need-same-length-4
 same-length-4 c = search needs
 
 returns-10 : tie.Need-returns-10
-returns-10 c = by (c .before .before .before .before .before .before .before .before .args .s) (c .before .before .before .before .before .before .before .before .args .step) (c .before .before .before .before .before .before .before .before .args .regs .now) (c .before .before .before .before .before .before .before .before .args .memory .now) 9 (c .before .before .before .before .before .before .match .keys10) (c .moved3 .ensures _) (rw (c .before .before .before .before .wide4 .ensures) at (c .before .before .before .store .ensures))
+returns-10 c =
+    by 9 (c .before .before .before .before .before .before .match .keys10) (c .moved3 .ensures _)
+    (rw (c .before .before .before .before .wide4 .ensures) at (c .before .before .before .store .ensures))
 
 returns-11 : tie.Need-returns-11
-returns-11 c = by (c .before .before .before .before .before .before .args .s) (c .before .before .before .before .before .before .args .step) (c .before .before .before .before .before .before .args .regs .now) (c .before .before .before .before .before .before .args .memory .now) 10 (c .before .before .before .before .match .keys11) (c .moved4 .ensures _ ∙ rw (c .before .step-up .ensures, c .before .before .before .operand-a2 .ensures)) refl
+returns-11 c =
+    by 10 (c .before .before .before .before .match .keys11)
+    (c .moved4 .ensures _ ∙ rw (c .before .step-up .ensures, c .before .before .before .operand-a2 .ensures)) refl
 
 returns-12 : tie.Need-returns-12
-returns-12 c = by (c .before .before .before .before .before .before .args .s) (c .before .before .before .before .before .before .args .step) (c .before .before .before .before .before .before .args .regs .now) (c .before .before .before .before .before .before .args .memory .now) 11 (c .before .before .before .before .match .keys12) (c .moved5 .ensures _ ∙ rw (c .before .step-up2 .ensures, c .before .before .before .operand-b3 .ensures)) refl
+returns-12 c =
+    by 11 (c .before .before .before .before .match .keys12)
+    (c .moved5 .ensures _ ∙ rw (c .before .step-up2 .ensures, c .before .before .before .operand-b3 .ensures)) refl
 
 returns-13 : tie.Need-returns-13
-returns-13 c = past (c .before .before .args .s) (c .before .before .args .step) (c .before .before .args .regs .now) (c .before .before .args .memory .now) (c .match .rest)
+returns-13 c = past-table (c .match .rest)
 
 pub work-spec : {M : Type 1} → statement M
 work-spec =

@@ -1,10 +1,10 @@
-use Prim.Native.Nat.{ℕ, _≤_, _-_}
-use mathlib.Core.Path.{_≡_, refl, sym, _∙_, ap}
+use Prim.Native.Nat.{ℕ, _≤_}
+use mathlib.Core.Path.{_≡_, sym, _∙_, ap}
 use native.Mathlib.Omega.{arith}
 use lib.ListN.{length, drop}
 use borrow.Author.Needs.{needs}
 use Rattle.gates.specs.Gates.{value}
-use Rattle.gates.proofs.Worth.{value-drop, value-end}
+use Rattle.gates.proofs.Worth.{row-end, value-drop}
 use Rattle.gates.proofs.bits.from_bits.Statement.{statement}
 use Rattle.gates.proofs.bits.from_bits.Tie as tie
 
@@ -15,7 +15,8 @@ abbrev μ-loop : tie.MeasureT-loop
 μ-loop bits r₀ i₀ r i = i
 
 loop-holds : tie.Need-loop-holds Inv-loop μ-loop
-loop-holds c = (omega arith, sym (value-end (c .args .bits .now) _ refl))
+unfolding value
+loop-holds c = (omega arith, sym (ap value (row-end (c .args .bits .now))))
 
 sub-i : tie.Need-sub-i Inv-loop μ-loop
 sub-i c = omega arith
@@ -36,7 +37,9 @@ loop-less : tie.Need-loop-less Inv-loop μ-loop
 loop-less c = omega arith
 
 loop-again : tie.Need-loop-again Inv-loop μ-loop
-loop-again c = (omega arith, omega (arith, value-drop 32 (c .before .before .before .args .bits .now) (c .before .before .loop .i) (omega arith) (omega arith) (omega arith)))
+loop-again c =
+    let more = value-drop 32 (c .before .before .before .args .bits .now) (c .before .before .loop .i) (omega arith) (omega arith) (omega arith) in
+    (omega arith, omega (arith, more))
 
 returns : tie.Need-returns Inv-loop μ-loop
 returns c =

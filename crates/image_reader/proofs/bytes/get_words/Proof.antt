@@ -6,7 +6,7 @@ use native.Mathlib.Nat.{add-zero, sub-zero}
 use lib.ListN.{length, take, drop, length-set}
 use lib.Seq.{sets}
 use Rattle.model.proofs.Stores.{store-step, store-end}
-use Rattle.image.specs.Bytes.{number, wordsIn}
+use Rattle.image.specs.Bytes.{numberIn, wordsIn}
 use Rattle.image.proofs.Places.{word-after}
 use Rattle.image_reader.proofs.bytes.get_words.Statement.{statement}
 use Rattle.image_reader.proofs.bytes.get_words.Tie as tie
@@ -56,7 +56,7 @@ loop-again c =
     let e₀ : a .at + 4 * (i + 1) ≡ a .at + 4 * i + 4 = omega arith in
     let e₁ : a .count - i ≡ a .count - (i + 1) + 1 = omega arith in
     let rest : List ℕ = wordsIn (a .count - (i + 1)) (drop (a .at + 4 * (i + 1)) (a .bytes .now)) in
-    let w : c .word-in .result ≡ number (take 4 (drop (a .at + 4 * i) (a .bytes .now))) = c .word-in .ensures in (
+    let w : c .word-in .result ≡ numberIn (take 4 (drop (a .at + 4 * i) (a .bytes .now))) = c .word-in .ensures in (
       omega arith,
       length-set (l .out) (a .from + i) (c .word-in .result) ∙ l .inv .1,
       store-step (l .out) _ (a .from + i) (a .from + (i + 1)) (c .word-in .result ∷ []) rest _ refl (omega arith)

@@ -23,7 +23,10 @@ add-t11 c = search needs
 
 returns : tie.Need-returns
 unfolding waitAt
-returns c = (waits-there (c .before .before .before .args .waits .now) (c .before .before .before .args .w) (c .before .before .if1 .taken) refl, omega (arith, c .before .shared-slice-known .given (c .before .before .before .args .w .position)))
+returns c =
+    let start = c .before .before .before in
+    let short = c .before .shared-slice-known .given (start .args .w .position) in
+    (waits-there (start .args .waits .now) (start .args .w) (c .before .before .if1 .taken) refl, omega arith)
 
 returns-2 : tie.Need-returns-2
 returns-2 c = (waits-past (c .before .args .waits .now) (c .before .args .w) (c .if1 .left), omega arith)

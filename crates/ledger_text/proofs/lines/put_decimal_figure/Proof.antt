@@ -1,14 +1,21 @@
+use Prim.Native.Nat.{_≤_}
 use native.Mathlib.Omega.{arith}
+use lib.ListN.{length}
 use borrow.Author.Needs.{needs}
-use Rattle.ledger_text.proofs.Parts.{figure-put, decimal-short}
+use Rattle.text.specs.Text.{decimal}
+use Rattle.text.proofs.Figures.{decimal-short}
+use Rattle.ledger_text.proofs.Parts.{figure-put}
 use Rattle.ledger_text.proofs.lines.put_decimal_figure.Statement.{statement}
 use Rattle.ledger_text.proofs.lines.put_decimal_figure.Tie as tie
+
+short-at : (s : tie.Start) → length (decimal (s .args .n)) ≤ 20
+short-at s = decimal-short (s .fits .n .fits)
 
 put-decimal-requires : tie.Need-put-decimal-requires
 put-decimal-requires c κs = search needs
 
 add-next : tie.Need-add-next
-add-next c = omega (arith, decimal-short (c .before .before .before .before .before .fits .n .fits), c .before .before .put-decimal .ensures .size)
+add-next c = omega (arith, short-at (c .before .before .before .before .before))
 
 slice-aggregate-put-text : tie.Need-slice-aggregate-put-text
 slice-aggregate-put-text c = search needs
@@ -17,13 +24,15 @@ put-text-requires : tie.Need-put-text-requires
 put-text-requires c κs = search needs
 
 add-result : tie.Need-add-result
-add-result c = omega (arith, decimal-short (c .before .before .before .before .before .before .before .before .before .before .fits .n .fits), c .before .before .before .before .before .before .before .put-decimal .ensures .size, c .before .before .put-text .ensures .size)
+add-result c = omega (arith, short-at (c .before .before .before .before .before .before .before .before .before .before))
 
 same-length : tie.Need-same-length
 same-length c = search needs
 
 returns : tie.Need-returns
-returns c = figure-put 20 (c .before .before .before .before .before .before .before .before .before .before .args .end) (decimal-short (c .before .before .before .before .before .before .before .before .before .before .fits .n .fits)) (c .before .before .before .before .before .before .before .put-decimal .ensures) (c .before .before .put-text .ensures)
+returns c =
+    let first = c .before .before .before .before .before .before .before in
+    figure-put 20 (short-at (first .before .before .before)) (first .put-decimal .ensures) (c .before .before .put-text .ensures)
 
 pub put-decimal-figure-spec : {M : Type 1} → statement M
 put-decimal-figure-spec =

@@ -1,6 +1,6 @@
 use borrow.Author.Needs.{needs}
 use Rattle.ledger_lines.specs.Lines.{endingText}
-use Rattle.ledger_text.proofs.Parts.{_▸_}
+use Rattle.ledger_text.proofs.Parts.{_⊳_}
 use Rattle.ledger_text.proofs.lines.put_ending.Statement.{statement}
 use Rattle.ledger_text.proofs.lines.put_ending.Tie as tie
 
@@ -18,7 +18,10 @@ same-length c = search needs
 
 returns : tie.Need-returns
 unfolding endingText
-returns c = c .before .before .before .before .before .before .before .before .before .before .put-ending-word .ensures .whole ▸ c .before .before .before .before .before .before .put-decimal-figure .ensures .whole ▸ c .before .before .put-decimal-figure2 .ensures .whole
+returns c =
+    let counted = c .before .before .before .before .before .before in
+    counted .before .before .before .before .put-ending-word .ensures .whole ⊳ counted .put-decimal-figure .ensures .whole
+    ⊳ c .before .before .put-decimal-figure2 .ensures .whole
 
 pub put-ending-spec : {M : Type 1} → statement M
 put-ending-spec =

@@ -1,6 +1,6 @@
 use native.Mathlib.Omega.{arith}
 use borrow.Author.Needs.{needs}
-use Rattle.ledger_text.proofs.Parts.{put, short}
+use Rattle.ledger_text.proofs.Parts.{put, extends-by}
 use Rattle.ledger_text.proofs.lines.put_ending_word.Statement.{statement}
 use Rattle.ledger_text.proofs.lines.put_ending_word.Tie as tie
 
@@ -32,13 +32,17 @@ same-length : tie.Need-same-length
 same-length c = search needs
 
 returns : tie.Need-returns
-returns c = rw (c .before .before .before .before .before .enum-told .given .1) (short 9 (omega arith) (put (c .before .before .put-text .ensures)))
+returns c =
+    rw (c .before .before .before .before .before .enum-told .given .1)
+    (extends-by 9 (omega arith) (put (c .before .before .put-text .ensures)))
 
 same-length-2 : tie.Need-same-length-2
 same-length-2 c = search needs
 
 returns-2 : tie.Need-returns-2
-returns-2 c = rw (c .before .before .before .before .before .enum-told2 .given .1) (short 9 (omega arith) (put (c .before .before .put-text2 .ensures)))
+returns-2 c =
+    rw (c .before .before .before .before .before .enum-told2 .given .1)
+    (extends-by 9 (omega arith) (put (c .before .before .put-text2 .ensures)))
 
 pub put-ending-word-spec : {M : Type 1} → statement M
 put-ending-word-spec =

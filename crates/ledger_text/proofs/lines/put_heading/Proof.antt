@@ -1,7 +1,7 @@
 use native.Mathlib.Omega.{arith}
 use borrow.Author.Needs.{needs}
 use Rattle.ledger_lines.specs.Lines.{heading}
-use Rattle.ledger_text.proofs.Parts.{short, start}
+use Rattle.ledger_text.proofs.Parts.{extends-by, start}
 use Rattle.ledger_text.proofs.lines.put_heading.Statement.{statement}
 use Rattle.ledger_text.proofs.lines.put_heading.Tie as tie
 
@@ -16,7 +16,7 @@ same-length c = search needs
 
 returns : tie.Need-returns
 unfolding heading
-returns c = short 25 (omega arith) (start (c .before .before .put-text .ensures))
+returns c = extends-by 25 (omega arith) (start (c .before .before .put-text .ensures))
 
 pub put-heading-spec : {M : Type 1} → statement M
 put-heading-spec = tie.close (tie.spec slice-aggregate-put-text put-text-requires same-length returns)

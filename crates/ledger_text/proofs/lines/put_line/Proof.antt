@@ -1,6 +1,6 @@
 use borrow.Author.Needs.{needs}
 use Rattle.ledger_lines.specs.Lines.{line}
-use Rattle.ledger_text.proofs.Parts.{put, _▸_}
+use Rattle.ledger_text.proofs.Parts.{put, _⊳_}
 use Rattle.ledger_text.proofs.lines.put_line.Statement.{statement}
 use Rattle.ledger_text.proofs.lines.put_line.Tie as tie
 
@@ -37,11 +37,13 @@ same-length c = search needs
 returns : tie.Need-returns
 unfolding line
 returns c =
-    c .before .before .before .before .before .before .before .before .before .before .before .before .before .before .before .before .before .before .before .before .before .before .before .put-decimal-figure .ensures .whole
-    ▸ c .before .before .before .before .before .before .before .before .before .before .before .before .before .before .before .before .before .before .before .put-hexadecimal-figure .ensures .whole
-    ▸ c .before .before .before .before .before .before .before .before .before .before .before .before .before .before .before .put-hexadecimal-figure2 .ensures .whole
-    ▸ c .before .before .before .before .before .before .before .before .before .before .before .put-decimal-figure2 .ensures .whole
-    ▸ (put (c .before .before .before .before .before .before .before .put-flag-digits .ensures) ▸ put (c .before .before .put-text .ensures))
+    let flags = c .before .before .before .before .before .before .before in
+    let clocks = flags .before .before .before .before in
+    let word = clocks .before .before .before .before in
+    let address = word .before .before .before .before in
+    address .before .before .before .before .put-decimal-figure .ensures .whole ⊳ address .put-hexadecimal-figure .ensures .whole
+    ⊳ word .put-hexadecimal-figure2 .ensures .whole ⊳ clocks .put-decimal-figure2 .ensures .whole
+    ⊳ (put (flags .put-flag-digits .ensures) ⊳ put (c .before .before .put-text .ensures))
 
 pub put-line-spec : {M : Type 1} → statement M
 put-line-spec =

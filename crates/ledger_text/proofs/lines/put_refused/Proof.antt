@@ -1,6 +1,6 @@
 use borrow.Author.Needs.{needs}
 use Rattle.ledger_lines.specs.Lines.{refusedText}
-use Rattle.ledger_text.proofs.Parts.{start, _▸_}
+use Rattle.ledger_text.proofs.Parts.{start, _⊳_}
 use Rattle.ledger_text.proofs.lines.put_refused.Statement.{statement}
 use Rattle.ledger_text.proofs.lines.put_refused.Tie as tie
 
@@ -25,7 +25,9 @@ same-length c = search needs
 returns : tie.Need-returns
 unfolding refusedText
 returns c =
-    rw (c .before .before .before .refusal-number .ensures) at (start (c .before .before .before .before .before .before .before .put-text .ensures) ▸ c .before .before .put-decimal-figure .ensures .whole)
+    let number = c .before .before .before in
+    rw (number .refusal-number .ensures) at
+    (start (number .before .before .before .before .put-text .ensures) ⊳ c .before .before .put-decimal-figure .ensures .whole)
 
 pub put-refused-spec : {M : Type 1} → statement M
 put-refused-spec =

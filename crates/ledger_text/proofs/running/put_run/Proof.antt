@@ -1,8 +1,7 @@
-use Prim.Native.Nat.{_-_}
+use Prim.Native.Nat.{_+_, _-_, _^_, _≤_, _<_}
 use mathlib.Core.Path.{_∙_}
 use native.Mathlib.Omega.{arith}
 use borrow.Author.Needs.{needs}
-use denote.Ref.{now}
 use Rattle.ledger_lines.specs.Lines.{mostLines}
 use Rattle.ledger_text.proofs.Turns.{At, begins, at-small, clocks-fit, turn, outside, finished}
 use Rattle.ledger_text.proofs.running.put_run.Statement.{statement}
@@ -15,11 +14,22 @@ Inv-loop memory₀ out₀ at₀ machine₀ ran₀ clocks₀ memory out at machin
 abbrev μ-loop : tie.MeasureT-loop
 μ-loop memory₀ out₀ at₀ machine₀ ran₀ clocks₀ memory out at machine ran clocks = mostLines - ran
 
+-- the heading and the lines so far are short
+small-at : (l : tie.At-loop Inv-loop μ-loop) → l .loop .at < 2 ^ 16
+small-at l = omega (arith, at-small (l .loop .inv), l .before .before .before .put-heading .ensures .near)
+
+-- and so are the clocks
+fit-at : (t : tie.After-run-one Inv-loop μ-loop)
+    → t .before .before .before .before .before .before .before .loop .clocks + t .run-one .result .clocks ≤ 200
+fit-at t =
+    let l = t .before .before .before .before .before .before .before in
+    clocks-fit (l .loop .inv) (t .run-one .ensures) (l .before .before .before .before .before .before .before .pre)
+
 put-heading-requires : tie.Need-put-heading-requires Inv-loop μ-loop
 put-heading-requires c κs = tt
 
 loop-holds : tie.Need-loop-holds Inv-loop μ-loop
-loop-holds c = begins (c .before .before .before .before .before .before .args .start) (now (c .before .before .before .before .before .before .args .memory)) (c .before .before .put-heading .last .0) (c .before .before .put-heading .result)
+loop-holds c = begins
 
 element-copy-out-address : tie.Need-element-copy-out-address Inv-loop μ-loop
 element-copy-out-address c = search needs
@@ -34,47 +44,65 @@ run-one-requires : tie.Need-run-one-requires Inv-loop μ-loop
 run-one-requires c κs = tt
 
 put-ending-requires : tie.Need-put-ending-requires Inv-loop μ-loop
-put-ending-requires c κs = omega (arith, at-small _ _ _ _ (c .before .before .before .before .before .before .before .before .before .before .before .before .loop .inv), c .before .before .before .before .before .before .before .before .before .before .before .before .before .before .before .put-heading .ensures .near)
+put-ending-requires c κs = small-at (c .before .before .before .before .before .before .before .before .before .before .before .before)
 
 same-length : tie.Need-same-length Inv-loop μ-loop
-same-length c = c .before .before .before .before .before .before .before .before .run-one .kept .0 ∙ c .before .before .before .before .before .before .before .before .before .before .before .before .before .before .before .loop .inv .words
+same-length c =
+    let ran = c .before .before .before .before .before .before .before .before in
+    ran .run-one .kept .0 ∙ ran .before .before .before .before .before .before .before .loop .inv .words
 
 same-length-2 : tie.Need-same-length-2 Inv-loop μ-loop
-same-length-2 c = c .before .before .put-ending .kept .0 ∙ c .before .before .before .before .before .before .before .before .before .before .before .before .before .before .before .loop .inv .room ∙ c .before .before .before .before .before .before .before .before .before .before .before .before .before .before .before .before .before .before .put-heading .kept .0
+same-length-2 c =
+    let l = c .before .before .before .before .before .before .before .before .before .before .before .before .before .before .before in
+    c .before .before .put-ending .kept .0 ∙ l .loop .inv .room ∙ l .before .before .before .put-heading .kept .0
 
 returns : tie.Need-returns Inv-loop μ-loop
 returns c =
-    outside _ _ _ _ (c .before .before .before .before .before .before .before .before .before .before .before .before .before .before .before .loop .inv) (c .before .before .before .before .before .before .before .before .run-one .ensures) (omega (arith, c .before .before .before .before .before .before .before .before .before .before .before .before .before .before .before .loop .inv .words, c .before .before .before .before .before .before .before .before .before .before .before .before .before .before .before .before .before .before .before .before .before .before .pre)) (omega (arith, c .before .before .before .before .before .before .before .before .before .before .before .before .before .before .before .loop .inv .words, c .before .before .before .before .before .before .before .before .before .before .before .before .before .before .before .before .before .before .before .before .before .before .pre))
-    (c .before .before .before .before .if1 .taken) (c .before .before .before .before .before .before .before .before .before .before .before .before .before .before .loop-test .taken) (c .before .before .before .before .before .before .before .before .before .before .before .before .before .before .before .before .before .before .put-heading .ensures .whole) (c .before .before .put-ending .ensures)
+    let ran = c .before .before .before .before .before .before .before .before in
+    let entered = ran .before .before .before .before .before .before in
+    let l = entered .before in
+    let top = l .before .before .before in
+    outside (l .loop .inv) (ran .run-one .ensures) (top .before .before .before .before .pre) (c .before .before .before .before .if1 .taken)
+    (entered .loop-test .taken) (top .put-heading .ensures .whole) (c .before .before .put-ending .ensures)
 
 add-ran : tie.Need-add-ran Inv-loop μ-loop
-add-ran c = omega (arith, c .before .before .before .before .before .before .before .before .before .before .before .before .loop-test .taken)
+add-ran c = omega arith
 
 add-clocks : tie.Need-add-clocks Inv-loop μ-loop
-add-clocks c = omega (arith, clocks-fit _ _ _ _ (c .before .before .before .before .before .before .before .before .before .before .before .before .before .before .loop .inv) (c .before .before .before .before .before .before .before .run-one .ensures) (omega (arith, c .before .before .before .before .before .before .before .before .before .before .before .before .before .before .loop .inv .words, c .before .before .before .before .before .before .before .before .before .before .before .before .before .before .before .before .before .before .before .before .before .pre)) (omega (arith, c .before .before .before .before .before .before .before .before .before .before .before .before .before .before .loop .inv .words, c .before .before .before .before .before .before .before .before .before .before .before .before .before .before .before .before .before .before .before .before .before .pre)))
+add-clocks c = omega (arith, fit-at (c .before .before .before .before .before .before .before))
 
 put-line-requires : tie.Need-put-line-requires Inv-loop μ-loop
-put-line-requires c κs = omega (arith, at-small _ _ _ _ (c .before .before .before .before .before .before .before .before .before .before .before .before .before .before .before .loop .inv), c .before .before .before .before .before .before .before .before .before .before .before .before .before .before .before .before .before .before .put-heading .ensures .near)
+put-line-requires c κs = small-at (c .before .before .before .before .before .before .before .before .before .before .before .before .before .before .before)
 
 loop-less : tie.Need-loop-less Inv-loop μ-loop
-loop-less c = omega (arith, c .before .before .before .before .before .before .before .before .before .before .before .before .before .before .before .before .before .loop-test .taken)
+loop-less c = omega arith
 
 loop-again : tie.Need-loop-again Inv-loop μ-loop
 loop-again c =
-    turn _ _ _ _ (c .before .before .before .before .before .before .before .before .before .before .before .before .before .before .before .before .before .before .loop .inv) (c .before .before .before .before .before .before .before .before .before .before .before .run-one .ensures) (omega (arith, c .before .before .before .before .before .before .before .before .before .before .before .before .before .before .before .before .before .before .loop .inv .words, c .before .before .before .before .before .before .before .before .before .before .before .before .before .before .before .before .before .before .before .before .before .before .before .before .before .pre)) (omega (arith, c .before .before .before .before .before .before .before .before .before .before .before .before .before .before .before .before .before .before .loop .inv .words, c .before .before .before .before .before .before .before .before .before .before .before .before .before .before .before .before .before .before .before .before .before .before .before .before .before .pre))
-    (c .before .before .before .before .before .before .before .if1 .left) (c .before .before .before .before .before .before .before .before .before .before .before .before .before .before .before .before .before .loop-test .taken) (c .before .before .before .before .before .before .before .before .before .before .before .run-one .kept .0) (c .before .before .put-line .kept .0) (rw (c .before .before .before .before .before .before .before .before .before .before .before .before .before .before .wide .ensures) at (c .before .before .before .before .before .before .before .before .before .before .before .before .before .load .ensures)) (c .before .before .put-line .ensures)
+    let put = c .before .before .put-line in
+    let ran = c .before .before .before .before .before .before .before .before .before .before .before in
+    let entered = ran .before .before .before .before .before .before in
+    let l = entered .before in
+    turn (l .loop .inv) (ran .run-one .ensures) (l .before .before .before .before .before .before .before .pre)
+    (c .before .before .before .before .before .before .before .if1 .left) (entered .loop-test .taken) (ran .run-one .kept .0) (put .kept .0)
+    (rw (ran .before .before .before .wide .ensures) at (ran .before .before .load .ensures)) (put .ensures)
 
 put-ending-requires-2 : tie.Need-put-ending-requires-2 Inv-loop μ-loop
-put-ending-requires-2 c κs = omega (arith, at-small _ _ _ _ (c .before .before .loop .inv), c .before .before .before .before .before .put-heading .ensures .near)
+put-ending-requires-2 c κs = small-at (c .before .before)
 
 same-length-3 : tie.Need-same-length-3 Inv-loop μ-loop
 same-length-3 c = c .before .before .before .before .before .loop .inv .words
 
 same-length-4 : tie.Need-same-length-4 Inv-loop μ-loop
-same-length-4 c = c .before .before .put-ending2 .kept .0 ∙ c .before .before .before .before .before .loop .inv .room ∙ c .before .before .before .before .before .before .before .before .put-heading .kept .0
+same-length-4 c =
+    let l = c .before .before .before .before .before in
+    c .before .before .put-ending2 .kept .0 ∙ l .loop .inv .room ∙ l .before .before .before .put-heading .kept .0
 
 returns-2 : tie.Need-returns-2 Inv-loop μ-loop
-returns-2 c = finished _ _ _ _ (c .before .before .before .before .before .loop .inv) (c .before .before .before .before .loop-test .left) (c .before .before .before .before .before .before .before .before .put-heading .ensures .whole) (c .before .before .put-ending2 .ensures)
+returns-2 c =
+    let l = c .before .before .before .before .before in
+    finished (l .loop .inv) (c .before .before .before .before .loop-test .left) (l .before .before .before .put-heading .ensures .whole)
+    (c .before .before .put-ending2 .ensures)
 
 pub put-run-spec : {M : Type 1} → statement M
 put-run-spec =

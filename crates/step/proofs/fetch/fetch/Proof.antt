@@ -1,12 +1,6 @@
-use Prim.Native.Nat.{ℕ}
-use mathlib.Core.List.{List}
-use mathlib.Core.Path.{refl, ap, _∙_}
 use borrow.Author.Tests.{not-true, not-false}
 use borrow.Author.Needs.{needs}
-use Rattle.model.specs.Operands.{operandA, operandB}
-use Rattle.model.specs.Words.{wordAt}
-use Rattle.model.proofs.Operands.{restored, restored-pc, down-eq, fetch-here, fetch-gone}
-use Rattle.step.proofs.Steps.{none, all, outside-pc, outside-a, with-b, took, took-down, took-back, fetched-eq}
+use Rattle.step.proofs.Steps.{pc-gone, a-gone, b-gone, b-there}
 use Rattle.step.proofs.fetch.fetch.Statement.{statement}
 use Rattle.step.proofs.fetch.fetch.Tie as tie
 
@@ -20,10 +14,7 @@ absent-requires : tie.Need-absent-requires
 absent-requires c κs = search needs
 
 returns : tie.Need-returns
-returns c =
-    let regs : List ℕ = c .before .before .before .before .before .args .regs .now in
-    let memory : List ℕ = c .before .before .before .before .before .args .memory .now in
-    none regs memory (outside-pc regs memory (fetch-gone regs memory (c .before .before .wide .ensures) (c .before .if1 .taken))) (c .absent .ensures) refl
+returns c = pc-gone _ _ (c .before .before .wide .ensures) (c .before .if1 .taken) (c .absent .ensures)
 
 mul-word : tie.Need-mul-word
 mul-word c = search needs
@@ -51,13 +42,11 @@ absent-requires-2 c κs = search needs
 
 returns-2 : tie.Need-returns-2
 returns-2 c =
-    let regs : List ℕ = c .before .before .before .before .before .before .before .before .before .before .before .before .before .before .before .args .regs .now in
-    let memory : List ℕ = c .before .before .before .before .before .before .before .before .before .before .before .before .before .before .before .args .memory .now in
-    let here = fetch-here regs memory (c .before .before .before .before .before .before .before .before .before .before .before .before .wide .ensures) (c .before .before .before .before .before .before .before .before .before .before .before .if1 .left) in
-    let opA = c .before .before .before .before .before .before .before .operand-a .ensures ∙ ap (λ (i : ℕ). operandA (wordAt memory i)) (c .before .before .before .before .before .before .before .before .before .before .before .before .wide .ensures) in
-    let a = took memory opA (c .before .before .before .before .before .before .before .before .step-pc .ensures) (c .before .before .before .take .ensures) in
-    none regs memory (outside-a regs memory here a (not-true _ (c .before .if2 .taken))) (c .absent2 .ensures)
-    (restored-pc regs (took-back (c .before .before .before .take .ensures) (not-true _ (c .before .if2 .taken)) ∙ c .before .before .before .before .before .before .before .before .step-pc .ensures))
+    let t = c .before .before .before in
+    let pc = t .before .before .before .before .before in
+    let here = pc .before .before .before in
+    a-gone _ _ (here .before .wide .ensures) (here .if1 .left) (t .before .before .before .before .operand-a .ensures) (pc .step-pc .ensures)
+    (t .take .ensures) (not-true _ (c .before .if2 .taken)) (c .absent2 .ensures)
 
 operand-b-requires : tie.Need-operand-b-requires
 operand-b-requires c κs = search needs
@@ -76,33 +65,24 @@ absent-requires-3 c κs = search needs
 
 returns-3 : tie.Need-returns-3
 returns-3 c =
-    let regs : List ℕ = c .before .before .before .before .before .before .before .before .before .before .before .before .before .before .before .before .before .before .before .before .before .before .args .regs .now in
-    let memory : List ℕ = c .before .before .before .before .before .before .before .before .before .before .before .before .before .before .before .before .before .before .before .before .before .before .args .memory .now in
-    let here = fetch-here regs memory (c .before .before .before .before .before .before .before .before .before .before .before .before .before .before .before .before .before .before .before .wide .ensures) (c .before .before .before .before .before .before .before .before .before .before .before .before .before .before .before .before .before .before .if1 .left) in
-    let opA = c .before .before .before .before .before .before .before .before .before .before .before .before .before .before .operand-a .ensures ∙ ap (λ (i : ℕ). operandA (wordAt memory i)) (c .before .before .before .before .before .before .before .before .before .before .before .before .before .before .before .before .before .before .before .wide .ensures) in
-    let a = took memory opA (c .before .before .before .before .before .before .before .before .before .before .before .before .before .before .before .step-pc .ensures) (c .before .before .before .before .before .before .before .before .before .before .take .ensures) in
-    let downA = took-down (c .before .before .before .before .before .before .before .before .before .before .take .ensures) (not-false _ (c .before .before .before .before .before .before .before .before .if2 .left)) in
-    let opB = c .before .before .before .before .before .before .before .operand-b .ensures ∙ ap (λ (i : ℕ). operandB (wordAt memory i)) (c .before .before .before .before .before .before .before .before .before .before .before .before .before .before .before .before .before .before .before .wide .ensures) in
-    let regsA = down-eq opA (c .before .before .before .before .before .before .before .before .before .before .before .before .before .before .before .step-pc .ensures) downA in
-    let b = took memory opB regsA (c .before .before .before .before .before .take2 .ensures) in
-    none regs memory (with-b regs memory here a (not-false _ (c .before .before .before .before .before .before .before .before .if2 .left)) b (not-true _ (c .before .before .before .if3 .taken))) (c .absent3 .ensures)
-    (restored-pc regs
-    (restored (c .before .before .before .before .before .before .before .before .before .before .before .before .before .before .operand-a .result) (c .before .before .before .before .before .before .before .before .before .before .before .before .register-word .ensures) (took-back (c .before .before .before .before .before .take2 .ensures) (not-true _ (c .before .before .before .if3 .taken)) ∙ downA) (c .before .set-register .ensures)
-    ∙ c .before .before .before .before .before .before .before .before .before .before .before .before .before .before .before .step-pc .ensures))
+    let u = c .before .before .before .before .before in
+    let t = u .before .before .before .before .before in
+    let pc = t .before .before .before .before .before in
+    let here = pc .before .before .before in
+    b-gone _ _ (here .before .wide .ensures) (here .if1 .left) (t .before .before .before .before .operand-a .ensures) (pc .step-pc .ensures)
+    (t .take .ensures) (not-false _ (u .before .before .before .if2 .left)) (u .before .before .operand-b .ensures)
+    (u .take2 .ensures) (not-true _ (c .before .before .before .if3 .taken)) (t .before .before .register-word .ensures)
+    (c .before .set-register .ensures) (c .absent3 .ensures)
 
 returns-4 : tie.Need-returns-4
 returns-4 c =
-    let regs : List ℕ = c .before .before .before .before .before .before .before .before .before .before .before .before .before .before .before .before .before .before .before .args .regs .now in
-    let memory : List ℕ = c .before .before .before .before .before .before .before .before .before .before .before .before .before .before .before .before .before .before .before .args .memory .now in
-    let here = fetch-here regs memory (c .before .before .before .before .before .before .before .before .before .before .before .before .before .before .before .before .wide .ensures) (c .before .before .before .before .before .before .before .before .before .before .before .before .before .before .before .if1 .left) in
-    let opA = c .before .before .before .before .before .before .before .before .before .before .before .operand-a .ensures ∙ ap (λ (i : ℕ). operandA (wordAt memory i)) (c .before .before .before .before .before .before .before .before .before .before .before .before .before .before .before .before .wide .ensures) in
-    let a = took memory opA (c .before .before .before .before .before .before .before .before .before .before .before .before .step-pc .ensures) (c .before .before .before .before .before .before .before .take .ensures) in
-    let downA = took-down (c .before .before .before .before .before .before .before .take .ensures) (not-false _ (c .before .before .before .before .before .if2 .left)) in
-    let opB = c .before .before .before .before .operand-b .ensures ∙ ap (λ (i : ℕ). operandB (wordAt memory i)) (c .before .before .before .before .before .before .before .before .before .before .before .before .before .before .before .before .wide .ensures) in
-    let regsA = down-eq opA (c .before .before .before .before .before .before .before .before .before .before .before .before .step-pc .ensures) downA in
-    let b = took memory opB regsA (c .before .before .take2 .ensures) in
-    all regs memory (with-b regs memory here a (not-false _ (c .before .before .before .before .before .if2 .left)) b (not-false _ (c .if3 .left))) (fetched-eq regs memory (c .before .before .before .before .before .before .before .before .before .before .before .before .before .before .before .before .wide .ensures) a b opA opB)
-    (down-eq opB regsA (took-down (c .before .before .take2 .ensures) (not-false _ (c .if3 .left))))
+    let u = c .before .before in
+    let t = u .before .before .before .before .before in
+    let pc = t .before .before .before .before .before in
+    let here = pc .before .before .before in
+    b-there _ _ (here .before .wide .ensures) (here .if1 .left) (t .before .before .before .before .operand-a .ensures) (pc .step-pc .ensures)
+    (t .take .ensures) (not-false _ (u .before .before .before .if2 .left)) (u .before .before .operand-b .ensures)
+    (u .take2 .ensures) (not-false _ (c .if3 .left))
 
 pub fetch-spec : {M : Type 1} → statement M
 fetch-spec =

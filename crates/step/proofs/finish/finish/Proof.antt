@@ -28,11 +28,14 @@ same-length-2 c = search needs
 
 returns : tie.Need-returns
 returns c =
+    let put = c .before .before .before .before .before .before .before .before in
+    let computed = put .before .before .before .before .before .unit-of .ensures in
+    let stored = put .before .before .before .before .before .before .stores-packed .ensures in
     record {
-      result = rw (c .before .before .before .before .before .before .before .before .before .before .before .before .flags-after-packed .ensures, c .before .before .before .before .before .before .before .before .before .before .before .before .before .unit-of .ensures, c .before .before .before .before .before .before .before .before .put .ensures .count, c .before .before .before .before .before .before .before .before .before .before .before .before .before .before .stores-packed .ensures);
-      registers = rw (c .step-up2 .ensures, c .before .before .step-up .ensures, c .before .before .before .before .before .before .before .before .put .ensures .registers, c .before .before .before .before .before .before .before .before .before .before .before .before .before .before .stores-packed .ensures, c .before .before .before .before .before .before .before .before .before .before .before .before .before .unit-of .ensures);
-      words = rw (c .before .before .before .before .before .before .before .before .put .ensures .words, c .before .before .before .before .before .before .before .before .before .before .before .before .before .before .stores-packed .ensures, c .before .before .before .before .before .before .before .before .before .before .before .before .before .unit-of .ensures);
-      places = rw (c .before .before .before .before .before .before .before .before .put .ensures .places, c .before .before .before .before .before .before .before .before .before .before .before .before .before .before .stores-packed .ensures);
+      result = rw (put .before .before .before .before .flags-after-packed .ensures, computed, put .put .ensures .count, stored);
+      registers = rw (c .step-up2 .ensures, c .before .before .step-up .ensures, put .put .ensures .registers, stored, computed);
+      words = rw (put .put .ensures .words, stored, computed);
+      places = rw (put .put .ensures .places, stored);
     }
 
 pub finish-spec : {M : Type 1} → statement M

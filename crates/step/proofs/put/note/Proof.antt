@@ -24,7 +24,12 @@ same-length : tie.Need-same-length
 same-length c = search needs
 
 returns : tie.Need-returns
-returns c = record { places = rw (c .before .before .before .store2 .ensures, c .before .before .before .before .before .before .before .store .ensures, c .before .before .before .before .before .before .before .before .before .wide .ensures); count = c .wrapping-add-u32 .ensures }
+returns c =
+    let first = c .before .before .before .before .before .before .before in
+    record {
+      places = rw (c .before .before .before .store2 .ensures, first .store .ensures, first .before .before .wide .ensures);
+      count = c .wrapping-add-u32 .ensures;
+    }
 
 pub note-spec : {M : Type 1} → statement M
 note-spec =

@@ -6,7 +6,7 @@ use Rattle.step.proofs.put.put.Statement.{statement}
 use Rattle.step.proofs.put.put.Tie as tie
 
 returns : tie.Need-returns
-returns c = puts-none (c .before .before .before .args .f) (c .before .before .before .args .x) (c .before .before .before .args .pairs) (c .before .before .before .args .regs .now) (c .before .before .before .args .memory .now) (c .before .before .before .args .journal .now) (not-true _ (c .if1 .taken))
+returns c = puts-none (not-true _ (c .if1 .taken))
 
 in-memory-requires : tie.Need-in-memory-requires
 in-memory-requires c κs = search needs
@@ -27,13 +27,20 @@ same-length-2 : tie.Need-same-length-2
 same-length-2 c = search needs
 
 returns-2 : tie.Need-returns-2
-returns-2 c = puts-memory (c .before .before .before .before .before .before .before .before .before .before .before .before .before .before .args .f) (c .before .before .before .before .before .before .before .before .before .before .before .before .before .before .args .x) (c .before .before .before .before .before .before .before .before .before .before .before .before .before .before .args .pairs) (c .before .before .before .before .before .before .before .before .before .before .before .before .before .before .args .regs .now) (c .before .before .before .before .before .before .before .before .before .before .before .before .before .before .args .memory .now) (c .before .before .before .before .before .before .before .before .before .before .before .before .before .before .args .journal .now) (not-false _ (c .before .before .before .before .before .before .before .before .before .before .before .if1 .left)) (sym (c .before .before .before .before .before .before .before .before .before .before .in-memory .ensures) ∙ c .before .before .before .before .before .before .before .before .before .if2 .taken) (c .before .before .before .before .before .before .before .wide .ensures) (c .before .before .before .before .before .before .store .ensures) (c .before .before .note .ensures)
+returns-2 c =
+    let stored = c .before .before .before .before .before .before in
+    let there = stored .before .before .before in
+    puts-memory (not-false _ (there .before .before .if1 .left)) (sym (there .before .in-memory .ensures) ∙ there .if2 .taken)
+    (stored .before .wide .ensures) (stored .store .ensures) (c .before .before .note .ensures)
 
 set-register-requires : tie.Need-set-register-requires
 set-register-requires c κs = search needs
 
 returns-3 : tie.Need-returns-3
-returns-3 c = puts-register (c .before .before .before .before .before .before .before .args .f) (c .before .before .before .before .before .before .before .args .x) (c .before .before .before .before .before .before .before .args .pairs) (c .before .before .before .before .before .before .before .args .regs .now) (c .before .before .before .before .before .before .before .args .memory .now) (c .before .before .before .before .before .before .before .args .journal .now) (not-false _ (c .before .before .before .before .if1 .left)) (sym (c .before .before .before .in-memory .ensures) ∙ c .before .before .if2 .left) (c .set-register .ensures)
+returns-3 c =
+    let there = c .before .before in
+    puts-register (not-false _ (there .before .before .if1 .left)) (sym (there .before .in-memory .ensures) ∙ there .if2 .left)
+    (c .set-register .ensures)
 
 pub put-spec : {M : Type 1} → statement M
 put-spec =

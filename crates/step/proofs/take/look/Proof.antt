@@ -17,10 +17,17 @@ load-requires : tie.Need-load-requires
 load-requires c κs = search needs
 
 returns : tie.Need-returns
-returns c = taken-memory (c .before .before .before .before .before .before .args .o) (c .before .before .before .before .before .before .args .regs .now) (c .before .before .before .before .before .before .args .memory .now) (sym (c .before .before .before .in-memory .ensures) ∙ c .before .before .if1 .taken) (c .before .before .before .before .register-word .ensures) (c .before .wide .ensures) (c .load .ensures)
+returns c =
+    let is = c .before .before .before in
+    let args = is .before .before .before .args in
+    taken-memory (args .o) (args .regs .now) (args .memory .now) (sym (is .in-memory .ensures) ∙ c .before .before .if1 .taken)
+    (is .before .register-word .ensures) (c .before .wide .ensures) (c .load .ensures)
 
 returns-2 : tie.Need-returns-2
-returns-2 c = taken-direct (c .before .before .before .before .args .o) (c .before .before .before .before .args .regs .now) (c .before .before .before .before .args .memory .now) (sym (c .before .in-memory .ensures) ∙ c .if1 .left) (c .before .before .register-word .ensures)
+returns-2 c =
+    let args = c .before .before .before .before .args in
+    taken-direct (args .o) (args .regs .now) (args .memory .now) (sym (c .before .in-memory .ensures) ∙ c .if1 .left)
+    (c .before .before .register-word .ensures)
 
 pub look-spec : {M : Type 1} → statement M
 look-spec =

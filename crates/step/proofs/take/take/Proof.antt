@@ -1,5 +1,4 @@
 use borrow.Author.Needs.{needs}
-use Rattle.model.proofs.Operands.{restored}
 use Rattle.step.proofs.Steps.{takes-there, takes-back}
 use Rattle.step.proofs.take.take.Statement.{statement}
 use Rattle.step.proofs.take.take.Tie as tie
@@ -14,13 +13,16 @@ look-requires : tie.Need-look-requires
 look-requires c κs = search needs
 
 returns : tie.Need-returns
-returns c = takes-there (c .before .before .before .before .before .before .before .before .args .o) (c .before .before .before .before .before .before .before .before .args .regs .now) (c .before .before .before .before .before .before .before .before .args .memory .now) (c .before .look .ensures) (c .before .before .before .step-down .ensures) (c .if1 .taken)
+returns c = takes-there (c .before .look .ensures) (c .before .before .before .step-down .ensures) (c .if1 .taken)
 
 set-register-requires : tie.Need-set-register-requires
 set-register-requires c κs = search needs
 
 returns-2 : tie.Need-returns-2
-returns-2 c = takes-back (c .before .before .before .before .before .before .before .before .before .before .args .o) (c .before .before .before .before .before .before .before .before .before .before .args .regs .now) (c .before .before .before .before .before .before .before .before .before .before .args .memory .now) (c .before .before .before .look .ensures) (c .before .before .before .before .before .step-down .ensures) (c .before .before .if1 .left) (restored (c .before .before .before .before .before .before .before .before .before .before .args .o) (c .before .before .before .before .before .before .before .register-word .ensures) (c .before .before .before .before .before .step-down .ensures) (c .set-register .ensures))
+returns-2 c =
+    let looked = c .before .before .before in
+    takes-back (looked .look .ensures) (looked .before .before .step-down .ensures) (c .before .before .if1 .left)
+    (looked .before .before .before .before .register-word .ensures) (c .set-register .ensures)
 
 pub take-spec : {M : Type 1} → statement M
 take-spec =

@@ -12,7 +12,8 @@ use Rattle.text.proofs.digits.put_digits.Statement.{statement}
 use Rattle.text.proofs.digits.put_digits.Tie as tie
 
 abbrev Inv-loop : tie.InvT-loop
-Inv-loop out₀ at base count n left₀ rest₀ out left rest = (left ≤ count) × (length out ≡ length out₀) × (sets out at (digits base left rest) ≡ sets out₀ at (digits base count n))
+Inv-loop out₀ at base count n left₀ rest₀ out left rest =
+    (left ≤ count) × (length out ≡ length out₀) × (sets out at (digits base left rest) ≡ sets out₀ at (digits base count n))
 
 abbrev μ-loop : tie.MeasureT-loop
 μ-loop out₀ at base count n left₀ rest₀ out left rest = left
@@ -47,7 +48,8 @@ loop-again c =
     let a = c .before .before .before .before .before .before .before .before .before .args in (
       omega arith,
       c .before .before .put-byte .kept .0 ∙ at .inv .1,
-      digits-turn (a .base) (at .out) (a .at) (at .left) (at .rest) (omega arith) (c .before .before .before .digit-of .ensures) (c .before .before .put-byte .ensures) (at .inv .2),
+      digits-turn (a .base) (at .out) (a .at) (at .left) (at .rest) (omega arith) (c .before .before .before .digit-of .ensures)
+          (c .before .before .put-byte .ensures) (at .inv .2),
     )
 
 same-length : tie.Need-same-length Inv-loop μ-loop

@@ -1,0 +1,26 @@
+use borrow.Author.Needs.{needs}
+use Rattle.model.specs.Refusals.{fileVerdict}
+use Rattle.verdicts.proofs.file_verdict.Statement.{statement}
+use Rattle.verdicts.proofs.file_verdict.Tie as tie
+
+memory-fits-requires : tie.Need-memory-fits-requires
+memory-fits-requires c κs = search needs
+
+journal-fits-requires : tie.Need-journal-fits-requires
+journal-fits-requires c κs = search needs
+
+then-requires : tie.Need-then-requires
+then-requires c κs = search needs
+
+returns : tie.Need-returns
+unfolding fileVerdict
+returns c = rw (c .then .ensures, c .before .before .memory-fits .ensures, c .before .journal-fits .ensures)
+
+pub file-verdict-spec : {M : Type 1} → statement M
+file-verdict-spec =
+    tie.close
+    (tie.spec
+    memory-fits-requires
+    journal-fits-requires
+    then-requires
+    returns)

@@ -1,0 +1,26 @@
+use borrow.Author.Needs.{needs}
+use Rattle.model.specs.Refusals.{runVerdict}
+use Rattle.verdicts.proofs.run_verdict.Statement.{statement}
+use Rattle.verdicts.proofs.run_verdict.Tie as tie
+
+memory-fits-requires : tie.Need-memory-fits-requires
+memory-fits-requires c κs = search needs
+
+waits-fit-requires : tie.Need-waits-fit-requires
+waits-fit-requires c κs = search needs
+
+then-requires : tie.Need-then-requires
+then-requires c κs = search needs
+
+returns : tie.Need-returns
+unfolding runVerdict
+returns c = rw (c .then .ensures, c .before .before .memory-fits .ensures, c .before .waits-fit .ensures)
+
+pub run-verdict-spec : {M : Type 1} → statement M
+run-verdict-spec =
+    tie.close
+    (tie.spec
+    memory-fits-requires
+    waits-fit-requires
+    then-requires
+    returns)

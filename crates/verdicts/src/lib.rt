@@ -1,0 +1,64 @@
+// The first reason to turn down a run, a file run and a gate run, in the order of document 01's numbers.
+mod gate_state;
+
+use gate_state::access_formed;
+use model::GateState;
+use model::Refusal;
+use model::Verdict;
+use refusals::demand;
+use refusals::memory_fits;
+use refusals::then;
+use step_table::LAST_ROW;
+ghost use mathlib.Core.Path.{_≡_};
+ghost use Rattle.model.specs.Refusals.{waitsFit, stateFits, journalFits, runVerdict, fileVerdict, gateVerdict};
+
+// The most entries of a wait list, and instructions of a file run.
+const MOST_WAITS: usize = 65_536;
+
+const MOST_INSTRUCTIONS: u32 = 65_536;
+
+// 3.
+fn waits_fit(waits: &[u16]) -> Verdict
+    ensures { λ r. ⌜ r ≡ waitsFit (now (waits .entry)) ⌝ }
+{
+    demand(waits.len() <= MOST_WAITS, Refusal::LongWaitList)
+}
+
+// 4.
+fn state_fits(s: GateState) -> Verdict
+    ensures { λ r. ⌜ r ≡ stateFits s ⌝ }
+{
+    demand(
+        (s.row <= LAST_ROW) & (s.position as usize <= MOST_WAITS) & access_formed(s),
+        Refusal::BadGateState,
+    )
+}
+
+// 5 and 6, of a file run of count instructions.
+fn journal_fits(journal: &[u32], count: u32) -> Verdict
+    ensures { λ r. ⌜ r ≡ journalFits (now (journal .entry)) count ⌝ }
+{
+    let places = 2 * (count as usize);
+    then(
+        demand(count <= MOST_INSTRUCTIONS, Refusal::TooManyInstructions),
+        demand(places <= journal.len(), Refusal::ShortJournal),
+    )
+}
+
+pub fn run_verdict(memory: &[u32], waits: &[u16]) -> Verdict
+    ensures { λ r. ⌜ r ≡ runVerdict (now (memory .entry)) (now (waits .entry)) ⌝ }
+{
+    then(memory_fits(memory), waits_fit(waits))
+}
+
+pub fn file_verdict(memory: &[u32], journal: &[u32], count: u32) -> Verdict
+    ensures { λ r. ⌜ r ≡ fileVerdict (now (memory .entry)) (now (journal .entry)) count ⌝ }
+{
+    then(memory_fits(memory), journal_fits(journal, count))
+}
+
+pub fn gate_verdict(memory: &[u32], waits: &[u16], s: GateState) -> Verdict
+    ensures { λ r. ⌜ r ≡ gateVerdict (now (memory .entry)) (now (waits .entry)) s ⌝ }
+{
+    then(memory_fits(memory), then(waits_fit(waits), state_fits(s)))
+}
