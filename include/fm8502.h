@@ -65,25 +65,25 @@ enum {
 /* ---- Codes */
 
 enum {
-    FM8502_DONE = 0,     /* carried out; a run: "finished" */
-    /* Refused: the paper's numbers, which stand in this order. */
-    FM8502_NO_WORDS = 1,
-    FM8502_TOO_MANY_WORDS = 2,
-    FM8502_LONG_WAIT_LIST = 3,
-    FM8502_BAD_GATE_STATE = 4,
-    FM8502_TOO_MANY_INSTRUCTIONS = 5,
-    FM8502_SHORT_JOURNAL = 6,
-    FM8502_SHORT_OUTPUT = 7,
-    FM8502_CUT_IMAGE = 8,
-    FM8502_WRONG_TAG = 9,
-    FM8502_WRONG_LENGTH = 10,
-    FM8502_WRONG_VERSION = 11,
-    FM8502_BAD_FLAG = 12,
-    FM8502_BAD_WORD_COUNT = 13,
-    FM8502_SHORT_MEMORY = 14,
-    FM8502_TRAILING_BYTES = 15,
-    FM8502_STOPPED = 100, /* carried out: "outside", or "undone" for a file run */
-    FM8502_MISFIT = 200   /* machine, state or result of another length than named */
+    FM8502_DONE = 0,                  /* carried out; a run: "finished" */
+    /* Refused: the numbers of the paper, document 01. */
+    FM8502_NO_WORDS = 1,              /* the memory has no words */
+    FM8502_TOO_MANY_WORDS = 2,        /* the memory has more than 16,777,216 words */
+    FM8502_LONG_WAIT_LIST = 3,        /* the wait list has more than 65,536 entries */
+    FM8502_BAD_GATE_STATE = 4,        /* the gate state has a bad row, list position or access */
+    FM8502_TOO_MANY_INSTRUCTIONS = 5, /* the file run wants more than 65,536 instructions */
+    FM8502_SHORT_JOURNAL = 6,         /* the journal has fewer than two places for each instruction */
+    FM8502_SHORT_OUTPUT = 7,          /* the output is shorter than the image */
+    FM8502_CUT_IMAGE = 8,             /* the image ends inside a field or before its end field */
+    FM8502_WRONG_TAG = 9,             /* a tag is not the one due */
+    FM8502_WRONG_LENGTH = 10,         /* a length is not the one due */
+    FM8502_WRONG_VERSION = 11,        /* the version is not 1 */
+    FM8502_BAD_FLAG = 12,             /* a flag byte exceeds 1 */
+    FM8502_BAD_WORD_COUNT = 13,       /* the word count is 0 or above 16,777,216 */
+    FM8502_SHORT_MEMORY = 14,         /* the memory is shorter than the word count */
+    FM8502_TRAILING_BYTES = 15,       /* bytes follow the end field */
+    FM8502_STOPPED = 100,             /* carried out: "outside", or "undone" for a file run */
+    FM8502_MISFIT = 200               /* machine, state or result of another length than named */
 };
 
 /* ---- Calls

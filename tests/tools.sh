@@ -1,12 +1,8 @@
 # shellcheck shell=bash
-# Finds the commands that the scripts need, or installs them: rt (the Rattle toolchain), cargo, cc, python3.
-PATH=$PATH:/opt/rattle/bin:${HOME:-/root}/.cargo/bin
-export PATH
-
-if ! command -v rt >/dev/null; then
-    echo "The Rattle toolchain's command rt is not on the PATH: install the toolchain first." >&2
-    return 1
-fi
+# Finds the commands that the scripts need: rt, which must be there, and cargo, cc and python3, which are installed where they are missing.
+# shellcheck source=tests/toolchain.sh
+. "${BASH_SOURCE[0]%/*}/toolchain.sh" || return 1
+PATH=$PATH:~/.cargo/bin
 
 # Debian's package for each command that is missing.
 missing=
@@ -14,7 +10,7 @@ for pair in cargo:cargo cc:gcc python3:python3; do
     command -v "${pair%%:*}" >/dev/null || missing="$missing ${pair#*:}"
 done
 if [ -n "$missing" ]; then
-    echo "installing:$missing"
+    echo "installing:$missing" >&2
     # shellcheck disable=SC2086
     if ! { apt-get update -q && apt-get install -y -q $missing; } >/dev/null; then
         echo "could not install:$missing" >&2

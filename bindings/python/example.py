@@ -20,7 +20,7 @@ def words(values):
 
 
 def load(folder, name):
-    memory, machine = fm8502.read_image((folder / name).read_bytes(), 4096)
+    machine, memory = fm8502.read_image((folder / name).read_bytes(), 4096)
     print(f"{name}: {len(memory)} words")
     return memory, machine
 
@@ -50,7 +50,7 @@ def roll_back(memory, machine):
     try:
         fm8502.file_run(memory, journal[:9], machine, INSTRUCTIONS)
     except fm8502.Refused as refused:
-        print("short journal:", refused)
+        print("short journal: refused", refused.number)
 
 
 def main():

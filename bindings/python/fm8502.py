@@ -16,13 +16,35 @@ _DONE = 0
 _STOPPED = 100
 _MISFIT = 200
 
+# The paper's reasons to turn a call down, number 1 first.
+_REASONS = (
+    "the memory has no words",
+    "the memory has more than 16,777,216 words",
+    "the wait list has more than 65,536 entries",
+    "the gate state has a bad row, list position or access",
+    "the file run wants more than 65,536 instructions",
+    "the journal has fewer than two places for each instruction",
+    "the output is shorter than the image",
+    "the image ends inside a field or before its end field",
+    "a tag is not the one due",
+    "a length is not the one due",
+    "the version is not 1",
+    "a flag byte exceeds 1",
+    "the word count is 0 or above 16,777,216",
+    "the memory is shorter than the word count",
+    "bytes follow the end field",
+)
+
 
 class Refused(Exception):
     """A call was turned down; `number` is the paper's, 1 to 15."""
 
     def __init__(self, number):
-        super().__init__(f"refused {number}")
+        super().__init__(number)
         self.number = number
+
+    def __str__(self):
+        return f"refused {self.number}: {_REASONS[self.number - 1]}"
 
 
 @dataclass
@@ -42,7 +64,7 @@ class Machine:
 
 @dataclass
 class GateState:
-    """The gate machine between two clocks; as given, between instructions."""
+    """The gate machine between two clocks; by default, between instructions."""
 
     machine: Machine = field(default_factory=Machine)
     row: int = 0
@@ -69,17 +91,31 @@ class GateState:
 
 @dataclass(frozen=True)
 class Run:
-    """How a run ended; not finished: outside, or undone for a file run."""
+    """How an interpreter run ended; not finished: outside."""
 
     finished: bool
     ran: int
-    clocks: int = 0
-    pairs: int = 0
+    # Clock total of the instructions that ran, their waits included.
+    clocks: int
+
+
+@dataclass(frozen=True)
+class FileRun:
+    """How a file run ended; not finished: undone, with its start put back."""
+
+    finished: bool
+    ran: int
+    # Pairs of address and former word in the journal.
+    pairs: int
 
 
 def _load():
     folder = Path(__file__).resolve().parents[2] / "target" / "python"
-    return ctypes.CDLL(os.environ.get("FM8502_SO", str(folder / "libfm8502.so")))
+    path = os.environ.get("FM8502_SO", str(folder / "libfm8502.so"))
+    try:
+        return ctypes.CDLL(path)
+    except OSError as error:
+        raise OSError(f"{error}; bindings/python/build.sh makes the library") from error
 
 
 _library = _load()
@@ -121,7 +157,7 @@ def _call(name, *arguments):
     return code
 
 
-def _words(values):
+def _word_array(values):
     # c_uint32 drops higher bits silently, so refuse them here.
     if any(not 0 <= value < 1 << 32 for value in values):
         raise ValueError("a register, latch or flag is not a word of 32 bits")
@@ -136,7 +172,7 @@ def _count(number, bits):
 
 def _changing(name, lent, state, middle, places):
     """A call that changes a machine or state in place; its code and result."""
-    words = _words(state._words())
+    words = _word_array(state._words())
     result = (c_uint64 * places)()
     code = _call(name, *lent, words, c_size_t(len(words)), *middle, result, c_size_t(places))
     state._take(words[:])
@@ -154,7 +190,7 @@ def file_run(memory, journal, machine, count):
     """Runs up to count instructions; a run that comes outside is taken back whole."""
     lent = (*_lent(c_uint32, memory), *_lent(c_uint32, journal))
     code, result = _changing("file_run", lent, machine, [_count(count, 32)], 2)
-    return Run(finished=code == _DONE, ran=result[0], pairs=result[1])
+    return FileRun(finished=code == _DONE, ran=result[0], pairs=result[1])
 
 
 def gate_run(memory, waits, state, clocks):
@@ -175,18 +211,18 @@ def image_size(words):
 
 
 def read_image(image, room):
-    """The memory and the machine of an image of at most `room` words."""
+    """The machine and the memory of an image of at most `room` words."""
     memory = array("I", bytes(4 * room))
     machine = Machine()
     lent = (*_shown(c_uint8, image), *_lent(c_uint32, memory))
     words = _changing("image_read", lent, machine, [], 1)[1][0]
-    return memory[:words], machine
+    return machine, memory[:words]
 
 
 def write_image(memory, machine):
     """The image of a memory and a machine."""
     out = bytearray(image_size(len(memory)))
-    words = _words(machine._words())
+    words = _word_array(machine._words())
     lent = (*_shown(c_uint32, memory), words, c_size_t(len(words)), *_lent(c_uint8, out))
     _call("image_write", *lent, (c_uint64 * 1)(), c_size_t(1))
     return bytes(out)

@@ -1,5 +1,6 @@
 // The gate machine in C, written for speed: a local state and a switch on the row.
 #include "gate_unit.h"
+#include <string.h>
 
 typedef struct {
     uint32_t registers[8];
@@ -95,27 +96,37 @@ INLINE bool tick(State *s, uint32_t *memory, size_t words, const uint16_t *waits
 
 INLINE State state_of(const uint32_t *w) {
     State s = {
-        .flags = w[8] << 3 | w[9] << 2 | w[10] << 1 | w[11],
-        .row = w[12],
-        .instruction = w[13],
-        .address = w[14],
-        .a = w[15],
-        .b = w[16],
-        .result = w[17],
-        .position = w[18],
-        .begun = w[19],
-        .left = w[20],
+        .flags = w[FM8502_CARRY] << 3 | w[FM8502_OVERFLOW] << 2 | w[FM8502_NEGATIVE] << 1 |
+                 w[FM8502_ZERO],
+        .row = w[FM8502_ROW],
+        .instruction = w[FM8502_INSTRUCTION],
+        .address = w[FM8502_ADDRESS],
+        .a = w[FM8502_A],
+        .b = w[FM8502_B],
+        .result = w[FM8502_RESULT],
+        .position = w[FM8502_POSITION],
+        .begun = w[FM8502_BEGUN],
+        .left = w[FM8502_LEFT],
     };
-    for (int i = 0; i < 8; i++) s.registers[i] = w[i];
+    memcpy(s.registers, w, sizeof s.registers);
     return s;
 }
 
 INLINE void give(const State *s, uint32_t *w) {
-    for (int i = 0; i < 8; i++) w[i] = s->registers[i];
-    for (int i = 0; i < 4; i++) w[8 + i] = s->flags >> (3 - i) & 1;
-    const uint32_t rest[9] = {s->row, s->instruction, s->address, s->a,   s->b,
-                              s->result, s->position, s->begun,   s->left};
-    for (int i = 0; i < 9; i++) w[12 + i] = rest[i];
+    memcpy(w, s->registers, sizeof s->registers);
+    w[FM8502_CARRY] = s->flags >> 3 & 1;
+    w[FM8502_OVERFLOW] = s->flags >> 2 & 1;
+    w[FM8502_NEGATIVE] = s->flags >> 1 & 1;
+    w[FM8502_ZERO] = s->flags & 1;
+    w[FM8502_ROW] = s->row;
+    w[FM8502_INSTRUCTION] = s->instruction;
+    w[FM8502_ADDRESS] = s->address;
+    w[FM8502_A] = s->a;
+    w[FM8502_B] = s->b;
+    w[FM8502_RESULT] = s->result;
+    w[FM8502_POSITION] = s->position;
+    w[FM8502_BEGUN] = s->begun;
+    w[FM8502_LEFT] = s->left;
 }
 
 uint32_t baseline_gate_run(uint32_t *memory, size_t memory_words, const uint16_t *waits,

@@ -65,24 +65,37 @@ INLINE bool add(const Lines *l, const bool *a, const bool *b, bool *sum, bool *b
     return carry;
 }
 
+// The result, of whose sources the lines let one through.
+INLINE void choose(const Lines *l, const bool *a, const bool *b, const bool *sum, bool *result) {
+    bool top = Or(l->shift_carry, And(l->shift_top, a[31]));
+    for (int i = 0; i < 32; i++) {
+        bool halved = i < 31 ? a[i + 1] : top;
+        bool arithmetic = Or(And(sum[i], l->adds), And(halved, l->shifts));
+        bool either = Or(And(Xor(a[i], b[i]), l->xor), And(Or(a[i], b[i]), l->or));
+        bool other = Or(And(And(a[i], b[i]), l->and), And(Not(a[i]), l->complement));
+        result[i] = Or(Or(arithmetic, either), Or(other, And(a[i], l->pass)));
+    }
+}
+
+INLINE void unpack(uint32_t word, bool *bits) {
+    for (int i = 0; i < 32; i++) bits[i] = word >> i & 1;
+}
+
+INLINE uint32_t pack(const bool *bits) {
+    uint32_t word = 0;
+    for (int i = 0; i < 32; i++) word |= (uint32_t)bits[i] << i;
+    return word;
+}
+
 uint32_t gate_unit(uint32_t operation, uint32_t a_word, uint32_t b_word, bool c, bool *carry,
                    bool *overflow) {
     Lines l = decode(operation, c);
     bool a[32], b[32], sum[32], result[32], before = false;
-    for (int i = 0; i < 32; i++) a[i] = a_word >> i & 1;
-    for (int i = 0; i < 32; i++) b[i] = b_word >> i & 1;
+    unpack(a_word, a);
+    unpack(b_word, b);
     bool out = add(&l, a, b, sum, &before);
-    bool top = Or(l.shift_carry, And(l.shift_top, a[31]));
-    for (int i = 0; i < 32; i++) {
-        bool halved = i < 31 ? a[i + 1] : top;
-        bool arithmetic = Or(And(sum[i], l.adds), And(halved, l.shifts));
-        bool either = Or(And(Xor(a[i], b[i]), l.xor), And(Or(a[i], b[i]), l.or));
-        bool other = Or(And(And(a[i], b[i]), l.and), And(Not(a[i]), l.complement));
-        result[i] = Or(Or(arithmetic, either), Or(other, And(a[i], l.pass)));
-    }
+    choose(&l, a, b, sum, result);
     *carry = Or(And(l.adds, Xor(out, l.borrow)), And(l.shifts, a[0]));
     *overflow = And(l.adds, Xor(out, before));
-    uint32_t word = 0;
-    for (int i = 0; i < 32; i++) word |= (uint32_t)result[i] << i;
-    return word;
+    return pack(result);
 }

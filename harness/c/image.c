@@ -3,7 +3,7 @@
 #include <stdlib.h>
 #include <string.h>
 
-enum { FIELD_WORDS = 1024, REGISTERS = 7, FLAGS = 42, COUNT = 49, WORDS = 53 };
+enum { WORDS_PER_FIELD = 1024, REGISTERS = 7, FLAGS = 42, COUNT = 49, WORDS = 53 };
 
 // A field's three bytes of tag and length; returns the place after them.
 static uint8_t *header(uint8_t *out, uint8_t tag, size_t length) {
@@ -13,26 +13,32 @@ static uint8_t *header(uint8_t *out, uint8_t tag, size_t length) {
     return out + 3;
 }
 
-static size_t field_words(size_t due) { return due < FIELD_WORDS ? due : FIELD_WORDS; }
+static size_t field_words(size_t due) {
+    return due < WORDS_PER_FIELD ? due : WORDS_PER_FIELD;
+}
 
-uint32_t baseline_image_write(const uint32_t *memory, size_t memory_words,
-                              const uint32_t *machine, uint8_t *out, uint64_t *result) {
-    uint32_t count = (uint32_t)memory_words;
-    *header(out, 1, 1) = 1;
-    memcpy(header(out + 4, 2, 32), machine, 32);
-    uint8_t *flags = header(out + FLAGS - 3, 3, 4);
-    for (int i = 0; i < 4; i++) flags[i] = (uint8_t)machine[8 + i];
-    memcpy(header(out + COUNT - 3, 4, 4), &count, 4);
-    uint8_t *at = out + WORDS;
-    for (size_t due = memory_words; due > 0;) {
+// The fields of the words; returns the place after them.
+static uint8_t *put_words(const uint32_t *memory, size_t due, uint8_t *at) {
+    while (due > 0) {
         size_t here = field_words(due);
         memcpy(header(at, 5, 4 * here), memory, 4 * here);
         at += 3 + 4 * here;
         memory += here;
         due -= here;
     }
-    at = header(at, 0xFF, 0);
-    result[0] = (uint64_t)(at - out);
+    return at;
+}
+
+uint32_t baseline_image_write(const uint32_t *memory, size_t memory_words,
+                              const uint32_t *machine, uint8_t *out, uint64_t *result) {
+    uint32_t count = (uint32_t)memory_words;
+    *header(out, 1, 1) = 1;
+    memcpy(header(out + REGISTERS - 3, 2, 32), machine, 32);
+    uint8_t *flags = header(out + FLAGS - 3, 3, 4);
+    for (int i = 0; i < 4; i++) flags[i] = (uint8_t)machine[8 + i];
+    memcpy(header(out + COUNT - 3, 4, 4), &count, 4);
+    uint8_t *end = header(put_words(memory, memory_words, out + WORDS), 0xFF, 0);
+    result[0] = (uint64_t)(end - out);
     return FM8502_DONE;
 }
 
@@ -42,23 +48,28 @@ static const uint8_t *due_header(const uint8_t *bytes, uint8_t tag, size_t lengt
     return bytes + 3;
 }
 
-uint32_t baseline_image_read(const uint8_t *bytes, size_t length, uint32_t *memory,
-                             uint32_t *machine, uint64_t *result) {
-    uint32_t words;
-    due_header(bytes, 1, 1);
-    memcpy(machine, due_header(bytes + 4, 2, 32), 32);
-    const uint8_t *flags = due_header(bytes + FLAGS - 3, 3, 4);
-    for (int i = 0; i < 4; i++) machine[8 + i] = flags[i];
-    memcpy(&words, due_header(bytes + COUNT - 3, 4, 4), 4);
-    const uint8_t *at = bytes + WORDS;
-    for (size_t due = words; due > 0;) {
+// Loads so many words from their fields; returns the place after them.
+static const uint8_t *get_words(const uint8_t *at, size_t due, uint32_t *memory) {
+    while (due > 0) {
         size_t here = field_words(due);
         memcpy(memory, due_header(at, 5, 4 * here), 4 * here);
         at += 3 + 4 * here;
         memory += here;
         due -= here;
     }
-    if (due_header(at, 0xFF, 0) != bytes + length) abort();
+    return at;
+}
+
+uint32_t baseline_image_read(const uint8_t *bytes, size_t length, uint32_t *memory,
+                             uint32_t *machine, uint64_t *result) {
+    uint32_t words;
+    due_header(bytes, 1, 1);
+    memcpy(machine, due_header(bytes + REGISTERS - 3, 2, 32), 32);
+    const uint8_t *flags = due_header(bytes + FLAGS - 3, 3, 4);
+    for (int i = 0; i < 4; i++) machine[8 + i] = flags[i];
+    memcpy(&words, due_header(bytes + COUNT - 3, 4, 4), 4);
+    const uint8_t *end = get_words(bytes + WORDS, words, memory);
+    if (due_header(end, 0xFF, 0) != bytes + length) abort();
     result[0] = words;
     return FM8502_DONE;
 }

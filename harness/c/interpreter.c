@@ -151,30 +151,34 @@ INLINE bool step(Engine *e, Registers *g) {
     return true;
 }
 
+INLINE void take_machine(Engine *e, Registers *g, const uint32_t *machine) {
+    for (int i = 0; i < 8; i++) g->r[i] = machine[i];
+    e->carry = machine[FM8502_CARRY];
+    e->overflow = machine[FM8502_OVERFLOW];
+    e->negative = machine[FM8502_NEGATIVE];
+    e->zero = machine[FM8502_ZERO];
+}
+
 // Runs the machine; returns how many instructions ran.
 INLINE uint32_t go(Engine *e, Registers *g, const uint32_t *machine, uint32_t count) {
-    for (int i = 0; i < 8; i++) g->r[i] = machine[i];
-    e->carry = machine[8];
-    e->overflow = machine[9];
-    e->negative = machine[10];
-    e->zero = machine[11];
+    take_machine(e, g, machine);
     uint32_t ran = 0;
     while (ran < count && step(e, g)) ran++;
     return ran;
 }
 
-INLINE void give(const Engine *e, const Registers *g, uint32_t *machine) {
+INLINE void give_machine(const Engine *e, const Registers *g, uint32_t *machine) {
     for (int i = 0; i < 8; i++) machine[i] = g->r[i];
-    machine[8] = e->carry;
-    machine[9] = e->overflow;
-    machine[10] = e->negative;
-    machine[11] = e->zero;
+    machine[FM8502_CARRY] = e->carry;
+    machine[FM8502_OVERFLOW] = e->overflow;
+    machine[FM8502_NEGATIVE] = e->negative;
+    machine[FM8502_ZERO] = e->zero;
 }
 
 INLINE uint32_t plain_run(Engine e, uint32_t *machine, uint32_t count, uint64_t *result) {
     Registers g;
     uint32_t ran = go(&e, &g, machine, count);
-    give(&e, &g, machine);
+    give_machine(&e, &g, machine);
     result[0] = ran;
     result[1] = e.clocks;
     return ran == count ? FM8502_DONE : FM8502_STOPPED;
@@ -197,7 +201,7 @@ uint32_t baseline_file_run(uint32_t *memory, size_t memory_words, uint32_t *jour
     result[0] = ran;
     result[1] = e.filled / 2;
     if (ran == count) {
-        give(&e, &g, machine);
+        give_machine(&e, &g, machine);
         return FM8502_DONE;
     }
     for (size_t i = e.filled; i > 0; i -= 2) memory[journal[i - 2]] = journal[i - 1];

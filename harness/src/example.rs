@@ -1,6 +1,6 @@
 //! What the examples of the bindings print, by the reference emulator.
 
-use crate::text::{flag_digits, hex_words};
+use crate::text::hex_words;
 use reference::{file_run, gate_run, image, run};
 use reference::{Answer, FileAnswer, GateState, Machine};
 
@@ -38,7 +38,7 @@ fn stacked(mut memory: Vec<u32>, waits: &[u16], start: Machine) -> String {
             "run: finished, {} instructions, {} clocks",
             result.ran, result.clocks
         ),
-        format!("flags {}", flag_digits(result.machine.flags)),
+        format!("flags {}", result.machine.flags.digits()),
         format!("registers{}", hex_words(&result.machine.registers)),
         format!("traces {}", memory[TRACE_COUNT]),
         format!("accumulators{}", hex_words(&memory[ACCUMULATORS])),

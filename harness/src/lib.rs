@@ -2,10 +2,10 @@
 //! reference emulator says what is right.
 
 pub mod arguments;
+pub mod case_words;
 pub mod crosscheck;
 pub mod example;
 pub mod text;
-pub mod words;
 
 #[cfg(feature = "library")]
 pub mod baseline;
@@ -13,3 +13,5 @@ pub mod baseline;
 pub mod bench;
 #[cfg(feature = "library")]
 pub mod differential;
+#[cfg(feature = "library")]
+pub mod words;

@@ -1,12 +1,4 @@
-//! Words, flags and bytes as text.
-
-use reference::Flags;
-
-/// Four digits in the order C, V, N, Z.
-pub fn flag_digits(flags: Flags) -> String {
-    let digit = |flag| if flag { '1' } else { '0' };
-    flags.to_array().map(digit).iter().collect()
-}
+//! Words and bytes as text.
 
 /// Each word with a space before it, as eight capital hexadecimal digits.
 pub fn hex_words(words: &[u32]) -> String {

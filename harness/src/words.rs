@@ -1,11 +1,12 @@
-//! The machine and the gate state as the words that the library takes; the flags
-//! as one number.
+//! The machine and the gate state as the words that the library takes.
 
+use crate::case_words::latch_words;
+use fm8502::library::{MACHINE_SIZE, STATE_SIZE};
 use reference::{Flags, GateState, Machine};
 
 /// r0 to r7, C, V, N, Z.
-pub fn machine_words(machine: &Machine) -> [u32; 12] {
-    let mut words = [0; 12];
+pub fn machine_words(machine: &Machine) -> [u32; MACHINE_SIZE] {
+    let mut words = [0; MACHINE_SIZE];
     words[..8].copy_from_slice(&machine.registers);
     words[8..].copy_from_slice(&machine.flags.to_array().map(u32::from));
     words
@@ -22,20 +23,10 @@ pub fn machine_of(words: &[u32]) -> Machine {
 }
 
 /// The machine's words, row, latches, list position, begun, left.
-pub fn state_words(state: &GateState) -> [u32; 21] {
-    let mut words = [0; 21];
-    words[..12].copy_from_slice(&machine_words(&state.machine()));
-    words[12..].copy_from_slice(&[
-        u32::from(state.row),
-        state.instruction,
-        state.address,
-        state.a,
-        state.b,
-        state.result,
-        state.position,
-        u32::from(state.begun),
-        u32::from(state.left),
-    ]);
+pub fn state_words(state: &GateState) -> [u32; STATE_SIZE] {
+    let mut words = [0; STATE_SIZE];
+    words[..MACHINE_SIZE].copy_from_slice(&machine_words(&state.machine()));
+    words[MACHINE_SIZE..].copy_from_slice(&latch_words(state));
     words
 }
 
@@ -55,10 +46,4 @@ pub fn state_of(words: &[u32]) -> GateState {
         begun: words[19] != 0,
         left: words[20] as u16,
     }
-}
-
-/// C, V, N, Z as the bits of a number, C the highest.
-pub fn flag_number(flags: Flags) -> u32 {
-    let bits = flags.to_array().map(u32::from);
-    bits.iter().fold(0, |number, bit| 2 * number + bit)
 }

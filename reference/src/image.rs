@@ -4,7 +4,7 @@ use crate::machine::{Flags, Machine};
 use crate::refusal::{check_memory, Refusal, MOST_WORDS};
 
 /// Words in a full tag-05 field.
-const FIELD_WORDS: usize = 1_024;
+pub(crate) const WORDS_PER_FIELD: usize = 1_024;
 
 const TAG_VERSION: u8 = 0x01;
 const TAG_REGISTERS: u8 = 0x02;
@@ -16,7 +16,7 @@ const VERSION: u8 = 1;
 
 /// Bytes of the image of a memory of `words` words.
 pub fn image_size(words: usize) -> usize {
-    56 + 4 * words + 3 * words.div_ceil(FIELD_WORDS)
+    56 + 4 * words + 3 * words.div_ceil(WORDS_PER_FIELD)
 }
 
 /// Writes the image at the head of `output` and returns its size.
@@ -31,7 +31,7 @@ pub fn write(machine: &Machine, memory: &[u32], output: &mut [u8]) -> Result<usi
     writer.field(TAG_REGISTERS, 32, little_endian(&machine.registers));
     writer.field(TAG_FLAGS, 4, machine.flags.to_array().map(u8::from));
     writer.field(TAG_COUNT, 4, (memory.len() as u32).to_le_bytes());
-    for words in memory.chunks(FIELD_WORDS) {
+    for words in memory.chunks(WORDS_PER_FIELD) {
         writer.field(TAG_WORDS, 4 * words.len(), little_endian(words));
     }
     writer.field(TAG_END, 0, []);
@@ -104,8 +104,8 @@ struct Contents<'a> {
 
 impl Contents<'_> {
     fn copy_words(&self, memory: &mut [u32]) {
-        let fields = self.fields.chunks(3 + 4 * FIELD_WORDS);
-        for (field, cells) in fields.zip(memory[..self.words].chunks_mut(FIELD_WORDS)) {
+        let fields = self.fields.chunks(3 + 4 * WORDS_PER_FIELD);
+        for (field, cells) in fields.zip(memory[..self.words].chunks_mut(WORDS_PER_FIELD)) {
             for (cell, bytes) in cells.iter_mut().zip(field[3..].chunks_exact(4)) {
                 *cell = word(bytes);
             }
@@ -119,20 +119,13 @@ fn parse(image: &[u8], lent: usize) -> Result<Contents<'_>, Refusal> {
     if reader.field(TAG_VERSION, 1)? != [VERSION] {
         return Err(Refusal::WrongVersion);
     }
-    let mut machine = Machine::default();
-    let registers = reader.field(TAG_REGISTERS, 32)?;
-    for (register, bytes) in machine.registers.iter_mut().zip(registers.chunks_exact(4)) {
-        *register = word(bytes);
-    }
-    machine.flags = flags(reader.field(TAG_FLAGS, 4)?)?;
+    let machine = Machine {
+        registers: registers(reader.field(TAG_REGISTERS, 32)?),
+        flags: flags(reader.field(TAG_FLAGS, 4)?)?,
+    };
     let words = word_count(reader.field(TAG_COUNT, 4)?, lent)?;
     let fields = reader.rest;
-    let mut due = words;
-    while due > 0 {
-        let here = due.min(FIELD_WORDS);
-        reader.field(TAG_WORDS, 4 * here)?;
-        due -= here;
-    }
+    reader.skip_words(words)?;
     reader.field(TAG_END, 0)?;
     if !reader.rest.is_empty() {
         return Err(Refusal::TrailingBytes);
@@ -166,6 +159,21 @@ impl<'a> Reader<'a> {
         self.rest = rest;
         Ok(value)
     }
+
+    /// Checks the fields of so many words; their values can be anything.
+    fn skip_words(&mut self, words: usize) -> Result<(), Refusal> {
+        let mut due = words;
+        while due > 0 {
+            let here = due.min(WORDS_PER_FIELD);
+            self.field(TAG_WORDS, 4 * here)?;
+            due -= here;
+        }
+        Ok(())
+    }
+}
+
+fn registers(value: &[u8]) -> [u32; 8] {
+    std::array::from_fn(|i| word(&value[4 * i..4 * i + 4]))
 }
 
 fn flags(value: &[u8]) -> Result<Flags, Refusal> {

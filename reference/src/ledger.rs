@@ -2,14 +2,14 @@
 
 use crate::image;
 use crate::interpreter::step;
-use crate::machine::{Flags, Machine};
+use crate::machine::Machine;
 
 /// The most bytes the program reads: one more than the largest image needs.
 pub const MOST_INPUT: usize = 16_453;
 /// Words of memory lent to the image reader.
-pub const MEMORY_WORDS: usize = 4_096;
+const MEMORY_WORDS: usize = 4_096;
 /// The most instructions listed.
-pub const MOST_LINES: u32 = 16;
+const MOST_LINES: u32 = 16;
 
 /// The ledger of an image.
 pub fn ledger(image: &[u8]) -> String {
@@ -32,13 +32,8 @@ fn list(memory: &mut [u32], mut machine: Machine) -> String {
             return text + &format!("outside {} {total}\n", number - 1);
         };
         total += step.clocks;
-        let flags = flag_digits(machine.flags);
+        let flags = machine.flags.digits();
         text += &format!("{number} {pc:08X} {word:08X} {} {flags}\n", step.clocks);
     }
     text + &format!("finished {MOST_LINES} {total}\n")
-}
-
-fn flag_digits(flags: Flags) -> String {
-    let digit = |flag| if flag { '1' } else { '0' };
-    flags.to_array().map(digit).iter().collect()
 }

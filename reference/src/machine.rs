@@ -35,6 +35,12 @@ impl Flags {
             zero,
         }
     }
+
+    /// Four digits 0 or 1 in the order C, V, N, Z, as the ledger prints them.
+    pub fn digits(self) -> String {
+        let digit = |flag| if flag { '1' } else { '0' };
+        self.to_array().map(digit).iter().collect()
+    }
 }
 
 /// Eight registers, r0 being the program counter, and the flags.

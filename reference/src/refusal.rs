@@ -8,7 +8,7 @@ pub const MOST_WORDS: usize = 16_777_216;
 pub const MOST_WAITS: usize = 65_536;
 
 /// The reasons of document 01; each has its number there as its discriminant.
-#[derive(Clone, Copy, Debug, PartialEq, Eq, PartialOrd, Ord, Hash)]
+#[derive(Clone, Copy, Debug, PartialEq, Eq)]
 #[repr(u8)]
 pub enum Refusal {
     NoWords = 1,

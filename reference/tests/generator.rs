@@ -1,10 +1,9 @@
 //! That the generated programs reach what they are meant to reach.
 
-use std::collections::HashSet;
-
 use reference::generate::program::{any_program, program, Kind, Program};
 use reference::rng::Rng;
 use reference::{run, step, Answer, Instruction, Operand};
+use std::collections::HashSet;
 
 /// What the instructions that really ran had in them.
 #[derive(Default)]

@@ -2,13 +2,12 @@
 
 mod common;
 
-use std::io::Write;
-use std::process::{Command, Stdio};
-
 use common::machine;
 use reference::image::to_bytes;
 use reference::ledger::ledger;
 use reference::Machine;
+use std::io::Write;
+use std::process::{Command, Stdio};
 
 const EXAMPLE: &str = "\
 step pc word clocks cvnz

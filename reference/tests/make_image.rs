@@ -2,13 +2,12 @@
 
 mod common;
 
-use std::fs;
-use std::path::PathBuf;
-use std::process::{Command, Output};
-
 use common::machine;
 use reference::image::{read, to_bytes};
 use reference::Machine;
+use std::fs;
+use std::path::PathBuf;
+use std::process::{Command, Output};
 
 fn make_image(arguments: &[&str]) -> Output {
     Command::new(env!("CARGO_BIN_EXE_make_image"))

@@ -13,13 +13,9 @@ fn main() -> io::Result<()> {
     let folder = PathBuf::from(env::args().nth(1).unwrap_or("examples".into()));
     let waits = load_waits(&folder.join("stacking.waits"))?;
     let (mut memory, machine) = load(&folder, "stacking.image")?;
-    stack(&mut memory, &waits, machine).map_err(refused)?;
+    stack(&mut memory, &waits, machine).map_err(io::Error::other)?;
     let (mut memory, machine) = load(&folder, "outside.image")?;
-    roll_back(&mut memory, machine).map_err(refused)
-}
-
-fn refused(Refused(number): Refused) -> io::Error {
-    io::Error::other(format!("refused {number}"))
+    roll_back(&mut memory, machine).map_err(io::Error::other)
 }
 
 fn load_waits(path: &Path) -> io::Result<Vec<u16>> {
@@ -33,7 +29,7 @@ fn load_waits(path: &Path) -> io::Result<Vec<u16>> {
 fn load(folder: &Path, name: &str) -> io::Result<(Vec<u32>, Machine)> {
     let bytes = fs::read(folder.join(name))?;
     let mut memory = vec![0; 4_096];
-    let (machine, words) = read_image(&bytes, &mut memory).map_err(refused)?;
+    let (machine, words) = read_image(&bytes, &mut memory).map_err(io::Error::other)?;
     memory.truncate(words);
     println!("{name}: {words} words");
     Ok((memory, machine))

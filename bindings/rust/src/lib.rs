@@ -4,14 +4,12 @@
 //! paper's number, and leaves everything lent as it was when it refuses.
 
 pub mod library;
+mod refused;
 mod words;
 
+pub use refused::Refused;
 use words::MACHINE_SIZE;
 pub use words::{Flags, GateState, Machine};
-
-/// Why a call was turned down: the paper's number, 1 to 15.
-#[derive(Clone, Copy, Debug, PartialEq, Eq)]
-pub struct Refused(pub u32);
 
 /// How an interpreter run ended.
 #[derive(Clone, Copy, Debug, PartialEq, Eq)]

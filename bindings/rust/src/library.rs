@@ -6,6 +6,8 @@
 //! A code from 1 to 15 is the paper's refusal. After it and after [`MISFIT`]
 //! everything lent is as it was.
 
+pub use crate::words::{MACHINE_SIZE, STATE_SIZE};
+
 /// Carried out.
 pub const DONE: u32 = 0;
 /// Carried out, and stopped at a missing word.
@@ -85,8 +87,8 @@ mod raw {
 // borrowed for the call, mutably where the library may write, and the library
 // is proved to stay within them.
 
-/// `machine`: 12 words, r0 to r7, C, V, N, Z. `result`: instructions that ran,
-/// clock total.
+/// `machine`: [`MACHINE_SIZE`] words, r0 to r7, C, V, N, Z. `result`: instructions
+/// that ran, clock total.
 pub fn run(
     memory: &mut [u32],
     waits: &[u16],
@@ -132,8 +134,8 @@ pub fn file_run(
     }
 }
 
-/// `state`: 21 words, the machine's 12, row, instruction, address, a, b, result,
-/// list position, whether an access has begun, its clocks left. `result`:
+/// `state`: [`STATE_SIZE`] words, the machine's, row, instruction, address, a, b,
+/// result, list position, whether an access has begun, its clocks left. `result`:
 /// instructions finished.
 pub fn gate_run(
     memory: &mut [u32],

@@ -1,8 +1,9 @@
 //! The machine and the gate state, and the words that the library takes them as.
 
-/// The words of a machine, and of a gate state.
-pub(crate) const MACHINE_SIZE: usize = 12;
-pub(crate) const STATE_SIZE: usize = 21;
+/// The words of a machine.
+pub const MACHINE_SIZE: usize = 12;
+/// The words of a gate state: the machine's first.
+pub const STATE_SIZE: usize = 21;
 
 /// The four flags.
 #[derive(Clone, Copy, Debug, Default, PartialEq, Eq)]

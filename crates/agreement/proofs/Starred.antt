@@ -6,13 +6,13 @@ use mathlib.Core.List.{List, [], _∷_}
 use lib.Dec.{T, eqb, eqb→eq}
 use store.Enc.{and-l, and-r}
 use Rattle.model.specs.declared.Verdict.the-variants.{Accepted}
-use Rattle.model.specs.Refusals.{verdictNumber, runVerdict}
 use Rattle.model.specs.Interpreter.{Run, interpret}
 use Rattle.model.specs.GateMachine.{Gate, gateRun}
+use Rattle.model.specs.Refusals.{verdictNumber, runVerdict}
 use Rattle.model.specs.Agreement.{interpreterMark, gateMark, machineOf, gateFrom, interpreterFrom}
 use Rattle.model.specs.Starred.{Case, cases, startOf, hasAll, passes, allPass}
-use Rattle.model.proofs.Starred.{starred}
 use Rattle.model.proofs.Verdicts.{accepted}
+use Rattle.model.proofs.Starred.{starred}
 use Rattle.interpreter.specs.declared.RunResult.{RunResult}
 use Rattle.interpreter.specs.Calls.{Runs}
 use Rattle.interpreter.proofs.Answers.{returned, left-in}

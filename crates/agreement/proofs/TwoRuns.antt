@@ -1,23 +1,20 @@
 -- Demand 3 for the two public calls, from the model's agreement and the calls' contracts.
 use Prim.Native.Nat.{ℕ}
-use mathlib.Core.Path.{_≡_, refl, sym, ap, _∙_}
+use mathlib.Core.Path.{_≡_, sym, ap, _∙_}
 use mathlib.Core.List.{List}
 use native.Mathlib.Omega.{arith}
 use Rattle.model.specs.declared.GateState.{GateState}
-use Rattle.model.specs.declared.Ending.{Ending}
-use Rattle.model.specs.declared.Ending.the-variants.{Finished, Outside}
 use Rattle.model.specs.declared.Verdict.{Verdict}
 use Rattle.model.specs.declared.Verdict.the-variants.{Accepted}
-use Rattle.model.specs.Refusals.{_then_, memoryFits, waitsFit, runVerdict, gateVerdict}
 use Rattle.model.specs.Interpreter.{Run, begin, interpret}
 use Rattle.model.specs.GateMachine.{Gate, gate, gateRun}
+use Rattle.model.specs.Refusals.{_then_, memoryFits, waitsFit, runVerdict, gateVerdict}
 use Rattle.model.specs.Agreement.{machineOf, gateFrom, interpreterFrom}
-use Rattle.model.proofs.Verdicts.{then-accepted, accepted}
 use Rattle.model.proofs.Agreed.{agreement}
+use Rattle.model.proofs.Verdicts.{then-accepted, accepted}
 use Rattle.model.proofs.Valid.{resting, valid-verdict}
-use Rattle.interpreter.specs.declared.RunAnswer.{RunAnswer}
-use Rattle.interpreter.specs.Calls.{runAnswer, runResult}
-use Rattle.interpreter.proofs.Answers.{returned, left-in}
+use Rattle.interpreter.specs.Calls.{runResult}
+use Rattle.interpreter.proofs.Answers.{finished-as, outside-as, returned, left-in}
 use Rattle.agreement.specs.TwoRuns.{Start, InStep, TwoRuns, SameVerdict}
 use Rattle.agreement.proofs.Series.{series-as-one}
 
@@ -26,14 +23,6 @@ unfolding gateVerdict runVerdict
 same-verdict memory waits start h =
     let v = valid-verdict start (resting start (rw (h .row) (omega arith)) (rw (h .position) (omega arith)) (h .begun) (h .left)) in
     ap (λ (w : Verdict). memoryFits memory then waitsFit waits then w) v ∙ ap (λ (w : Verdict). memoryFits memory then w) (then-accepted (waitsFit waits))
-
-finished-as : (e : Ending) → runAnswer e ≡ RunAnswer.Finished → e ≡ Finished
-finished-as Finished q = refl
-finished-as Outside q = absurd (let z : _≡_ {A = ℕ} 0 1 = cc in omega arith)
-
-outside-as : (e : Ending) → runAnswer e ≡ RunAnswer.Outside → e ≡ Outside
-outside-as Finished q = absurd (let z : _≡_ {A = ℕ} 0 1 = cc in omega arith)
-outside-as Outside q = refl
 
 -- the claim for a run i of the model
 claim : (memory waits : List ℕ) (start : GateState) (n k : ℕ) → Start start → (i : Run) → i ≡ interpret waits n (interpreterFrom start memory)

@@ -15,7 +15,7 @@ use Rattle.agreement.specs.TwoRuns.{runMark}
 pub record Holds (c : Case) (r : RunResult) (words : List ℕ) : Type 0 where
   pub run : T (hasAll (runMark r words) (r .clocks) (c .expected))
   pub clocks : (g : GateResult) (words′ : List ℕ) → GateRuns (c .memory) (c .waits) (startOf c) (r .clocks) words′ g
-      → T (hasAll (gateMark (gate (g .state) words′ (g .finished))) (r .clocks) (c .expected))
+      → T (hasAll (gateMark (gate (g .state) words′ (g .outcome .finished))) (r .clocks) (c .expected))
 
 -- whatever the calls return for each case
 abbrev pub AllHold : List Case → Type 0

@@ -6,8 +6,8 @@ use mathlib.Core.Logic.{_↔_}
 use mathlib.Core.Bool.{false}
 use mathlib.Core.List.{List}
 use Rattle.model.specs.declared.GateState.{GateState}
-use Rattle.model.specs.Refusals.{runVerdict, gateVerdict}
 use Rattle.model.specs.GateMachine.{gate}
+use Rattle.model.specs.Refusals.{runVerdict, gateVerdict}
 use Rattle.model.specs.Agreement.{Mark, markOf, gateMark, machineOf}
 use Rattle.interpreter.specs.declared.RunAnswer.{RunAnswer}
 use Rattle.interpreter.specs.declared.RunResult.{RunResult}

@@ -1,5 +1,5 @@
 -- Bits, alone and as numbers.
-use Prim.Native.Nat.{ℕ, zero, suc, _/_, _%_, _≤_}
+use Prim.Native.Nat.{ℕ, zero, suc, _+_, _*_, _/_, _%_, _≤_}
 use mathlib.Core.Path.{_≡_, refl}
 use mathlib.Core.Bool.{Bool, true, false, not, xor}
 use native.Mathlib.Omega.{arith}
@@ -44,6 +44,13 @@ pub bit-digit : (x : ℕ) → x ≤ 1 → asNumber (eqb x 1) ≡ x
 bit-digit zero h = refl
 bit-digit (suc zero) h = refl
 bit-digit (suc (suc x)) h = absurd (omega arith)
+
+-- the lowest bit of a number, and the others
+pub low-bit : (b : Bool) (n : ℕ) → (asNumber b + 2 * n) % 2 ≡ asNumber b
+low-bit b n = omega (arith, bit-le b)
+
+pub high-bits : (b : Bool) (n : ℕ) → (asNumber b + 2 * n) / 2 ≡ n
+high-bits b n = omega (arith, bit-le b)
 
 -- the lowest four bits of a number
 pub low-nibble : (n : ℕ) → nibble (eqb (n / 8 % 2) 1) (eqb (n / 4 % 2) 1) (eqb (n / 2 % 2) 1) (eqb (n % 2) 1) ≡ n % 16

@@ -1,10 +1,10 @@
 -- One law for sums and one for differences, at every width: a word r and a bit d that make the equation of values true are the result and
 -- the carry, and the overflow is read off the three top bits.
-use Prim.Native.Nat.{ℕ, suc, _+_, _-_, _*_, _%_, _≤_, _<_, _^_}
+use Prim.Native.Nat.{ℕ, suc, _+_, _-_, _*_, _%_, _^_, _≤_, _<_}
 use mathlib.Core.Path.{_≡_, refl, sym, ap, ap₂, _∙_}
 use mathlib.Core.Bool.{Bool, true, false, not, _||_, xor}
-use native.Mathlib.Omega.{arith}
 use native.Mathlib.Nat.{pow-suc, mod-eq-of-lt, add-mul-mod-self-right}
+use native.Mathlib.Omega.{arith}
 use lib.Dec.{ltb, leb}
 use lib.IntN.{ℤ}
 use lib.Pow.{pow-pos}
@@ -31,7 +31,7 @@ top-of k x = top-says (2 ^ k) x (topOf k x) refl
 
 -- The true value of a sum or difference, a - b, against the signed reading of its result, r - w: the two are equal, or off by m, the number
 -- of words.
-pub data Off (a b r w m : ℕ) : Bool → Type 0 where
+data Off (a b r w m : ℕ) : Bool → Type 0 where
   exact : a + w ≡ r + b → Off a b r w m false
   lower : a + w + m ≡ r + b → Off a b r w m true
   higher : a + w ≡ r + b + m → Off a b r w m true

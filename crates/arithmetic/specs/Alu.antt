@@ -3,8 +3,8 @@
 use Prim.Native.Nat.{ℕ, suc, _+_, _-_, _*_, _/_, _%_, _^_}
 use mathlib.Core.Bool.{Bool, true, false}
 use mathlib.Core.List.{List, [], _∷_}
-use lib.ListN.{getD}
 use lib.Dec.{leb, ltb, eqb}
+use lib.ListN.{getD}
 use lib.Bits.{bitAnd, bitOr, bitXor}
 use lib.IntN.{pos, _+ℤ_, _-ℤ_}
 use Rattle.arithmetic.specs.declared.AluOut.{AluOut}

@@ -68,9 +68,9 @@ fn show_values() {
 
 fn show_largest() {
     let most = [0u32; 4_096];
-    show_part(b"4096 words\n", &most, 16452);
-    show_part(b"4096 words and a byte\n", &most, 16453);
-    show_part(b"4097 words\n", &[0u32; 4097], 16459);
+    show_part(b"4096 words\n", &most, 16_452);
+    show_part(b"4096 words and a byte\n", &most, 16_453);
+    show_part(b"4097 words\n", &[0u32; 4_097], 16_459);
 }
 
 fn main() {

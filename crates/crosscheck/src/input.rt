@@ -3,7 +3,8 @@ use effects::unpacked;
 use libc::STDIN_FILENO;
 use model::Machine;
 use operands::wide;
-ghost use Prim.Native.Nat.{_≤_};
+ghost use mathlib.Core.Path.{_≡_};
+ghost use Prim.Native.Nat.{_≤_, min};
 
 // The longest memory and wait list of a case.
 pub const MOST_LIST: usize = 64;
@@ -16,7 +17,7 @@ pub struct List {
 }
 
 pub fn least(a: usize, b: usize) -> usize
-    ensures { λ r. ⌜ (r ≤ a) × (r ≤ b) ⌝ }
+    ensures { λ r. ⌜ r ≡ min a b ⌝ }
 {
     if a < b { a } else { b }
 }

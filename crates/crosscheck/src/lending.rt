@@ -1,36 +1,27 @@
 // Clocks one at a time, each on a state that is lent for it.
-use gate_machine::ClockResult;
 use gate_machine::GateAnswer;
+use gate_machine::GateOutcome;
 use gate_machine::GateResult;
 use gate_machine::clock_lent;
 use model::GateState;
 ghost use Rattle.gate_machine.specs.Calls.{LentClock};
 
-struct Clocked {
-    outcome: ClockResult,
-    state: GateState,
-}
-
 // The one function here with a reference to a struct: its proof is by hand, and its callers need none.
-fn clock_once(memory: &mut [u32], waits: &[u16], mut state: GateState) -> Clocked
+fn clock_once(memory: &mut [u32], waits: &[u16], mut state: GateState) -> GateResult
     ensures { λ r. ⌜ LentClock (now (memory .entry)) (now (waits .entry)) state (now (memory .exit)) (r .state) (r .outcome) ⌝ }
 {
     let outcome = clock_lent(memory, waits, &mut state);
-    Clocked { outcome, state }
+    GateResult { outcome, state }
 }
 
 // One clock more on what the clocks before it left.
 fn one_more(memory: &mut [u32], waits: &[u16], before: GateResult) -> GateResult {
     let state = before.state;
-    let after = clock_once(memory, waits, state);
-    let outcome = after.outcome;
-    let answer = outcome.answer;
-    let next = after.state;
-    GateResult {
-        answer,
-        state: next,
-        finished: std::num::wrapping_add_u64(before.finished, outcome.finished),
-    }
+    let earlier = before.outcome.finished;
+    let mut after = clock_once(memory, waits, state);
+    let finished = std::num::wrapping_add_u64(earlier, after.outcome.finished);
+    after.outcome.finished = finished;
+    after
 }
 
 // What a gate run of so many clocks gives.
@@ -41,9 +32,11 @@ pub fn clock_by_clock(
     clocks: u64,
 ) -> GateResult {
     let mut result = GateResult {
-        answer: GateAnswer::Ran,
+        outcome: GateOutcome {
+            answer: GateAnswer::Ran,
+            finished: 0,
+        },
         state: start,
-        finished: 0,
     };
     let mut left = clocks;
     while 0 < left {

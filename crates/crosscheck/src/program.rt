@@ -38,12 +38,12 @@ fn print_run_answer(answer: RunAnswer) {
 }
 
 // run ANSWER ran clocks cvnz r0..r7 m0..; answers the clocks.
-fn run_line(memory: List, entries: List, start: Machine, count: u32) -> u64 {
+fn run_line(memory: List, waits: List, start: Machine, count: u32) -> u64 {
     let mut words = memory.words;
-    let waits = entries.waits;
+    let entries = waits.waits;
     let result = interpreter::run(
         front_words(&mut words, memory.count),
-        front_waits(&waits, entries.count),
+        front_waits(&entries, waits.count),
         start,
         count,
     );
@@ -83,7 +83,11 @@ fn gate_line(memory: List, waits: List, start: GateState, clocks: u64) {
     let flags = state.flags;
     let words = run.words;
     print(b"gate");
-    print_counted(result.finished, state.row as u64, Machine { regs, flags });
+    print_counted(
+        result.outcome.finished,
+        state.row as u64,
+        Machine { regs, flags },
+    );
     print_memory(words, memory.count);
 }
 

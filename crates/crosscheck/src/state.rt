@@ -42,18 +42,12 @@ fn gate_result(
     gate_machine::run(memory, waits, start, clocks)
 }
 
-pub fn run_gates(
-    memory: List,
-    entries: List,
-    start: GateState,
-    clocks: u64,
-    lent: bool,
-) -> GateRun {
+pub fn run_gates(memory: List, waits: List, start: GateState, clocks: u64, lent: bool) -> GateRun {
     let mut words = memory.words;
-    let waits = entries.waits;
+    let entries = waits.waits;
     let result = gate_result(
         front_words(&mut words, memory.count),
-        front_waits(&waits, entries.count),
+        front_waits(&entries, waits.count),
         start,
         clocks,
         lent,
@@ -105,11 +99,12 @@ fn print_state(s: GateState) {
 // The line's name, ANSWER finished, the state, m0..
 fn print_gate_run(name: &[u8], run: GateRun, count: usize) {
     let result = run.result;
-    let answer = result.answer;
+    let outcome = result.outcome;
+    let answer = outcome.answer;
     let state = result.state;
     let words = run.words;
     print_gate_answer(name, answer);
-    print_number(result.finished);
+    print_number(outcome.finished);
     print_state(state);
     print_memory(words, count);
 }

@@ -6,11 +6,11 @@ use Rattle.arithmetic.specs.Alu.{sumOf, differenceOf, halvedOf, answers, aluAt,
 use Rattle.model.specs.Words.{field, bit}
 use Rattle.model.specs.Operands.{operandA, operandB}
 use Rattle.model.specs.Alu.{isMove, operation, alu, flagsAfter, stores}
-use Rattle.model.specs.Packed.{packedOf, flagsOf, latchWords}
 use Rattle.model.specs.Waits.{waitAt, nextPosition, waitSum, positionAfter}
 use Rattle.model.specs.Interpreter.{execute, stop, advance, interpret}
-use Rattle.model.specs.GateMachine.{work, isAccess, remaining, positionNow, workOrWait, clock, gateRun}
 use Rattle.model.specs.Journal.{storedBy, journalPairs, journalWords}
+use Rattle.model.specs.GateMachine.{work, isAccess, remaining, positionNow, workOrWait, clock, gateRun}
+use Rattle.model.specs.Packed.{packedOf, flagsOf, latchWords}
 use Rattle.definition_cases.specs.Shape.{runFailures, gateFailures}
 use Rattle.definition_cases.specs.Cases.{runCases, gateCases}
 

@@ -8,11 +8,11 @@ use lib.ListN.{getD}
 use Rattle.model.specs.declared.GateState.{GateState}
 use Rattle.model.specs.declared.Ending.{Ending}
 use Rattle.model.specs.declared.Ending.the-variants.{Finished, Outside}
-use Rattle.model.specs.Packed.{packedOf, flagsOf, packedMachine, latchWords}
 use Rattle.model.specs.Interpreter.{begin, interpret}
-use Rattle.model.specs.GateMachine.{gateRun}
-use Rattle.model.specs.Agreement.{gateFrom}
 use Rattle.model.specs.Journal.{journalPairs, journalWords}
+use Rattle.model.specs.GateMachine.{gateRun}
+use Rattle.model.specs.Packed.{packedOf, flagsOf, packedMachine, latchWords}
+use Rattle.model.specs.Agreement.{gateFrom}
 
 abbrev pub same : List ℕ → List ℕ → Bool
 same [] [] = true

@@ -18,7 +18,6 @@ pub fn is_move(word: u32) -> bool
     word / 32_768 % 2 == 1
 }
 
-// The operation's number.
 pub fn operation_of(word: u32) -> u8
     ensures { λ r. ⌜ r ≡ operation word ⌝ }
 {

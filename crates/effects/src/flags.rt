@@ -13,37 +13,37 @@ pub fn packed(flags: Flags) -> u32
         + (flags.zero as u32)
 }
 
-pub fn carry(bits: u32) -> bool
-    ensures { λ r. ⌜ r ≡ flagsOf bits .carry ⌝ }
+pub fn carry(flags: u32) -> bool
+    ensures { λ r. ⌜ r ≡ flagsOf flags .carry ⌝ }
 {
-    bits / 8 % 2 == 1
+    flags / 8 % 2 == 1
 }
 
-pub fn overflow(bits: u32) -> bool
-    ensures { λ r. ⌜ r ≡ flagsOf bits .overflow ⌝ }
+pub fn overflow(flags: u32) -> bool
+    ensures { λ r. ⌜ r ≡ flagsOf flags .overflow ⌝ }
 {
-    bits / 4 % 2 == 1
+    flags / 4 % 2 == 1
 }
 
-pub fn negative(bits: u32) -> bool
-    ensures { λ r. ⌜ r ≡ flagsOf bits .negative ⌝ }
+pub fn negative(flags: u32) -> bool
+    ensures { λ r. ⌜ r ≡ flagsOf flags .negative ⌝ }
 {
-    bits / 2 % 2 == 1
+    flags / 2 % 2 == 1
 }
 
-pub fn zero(bits: u32) -> bool
-    ensures { λ r. ⌜ r ≡ flagsOf bits .zero ⌝ }
+pub fn zero(flags: u32) -> bool
+    ensures { λ r. ⌜ r ≡ flagsOf flags .zero ⌝ }
 {
-    bits / 1 % 2 == 1
+    flags / 1 % 2 == 1
 }
 
-pub fn unpacked(bits: u32) -> Flags
-    ensures { λ r. ⌜ r ≡ flagsOf bits ⌝ }
+pub fn unpacked(flags: u32) -> Flags
+    ensures { λ r. ⌜ r ≡ flagsOf flags ⌝ }
 {
     Flags {
-        carry: carry(bits),
-        overflow: overflow(bits),
-        negative: negative(bits),
-        zero: zero(bits),
+        carry: carry(flags),
+        overflow: overflow(flags),
+        negative: negative(flags),
+        zero: zero(flags),
     }
 }

@@ -1,4 +1,4 @@
-// What an instruction does beside its operands: its operation, storing condition and flags, which both engines carry packed or apart.
+// What an instruction does beside its operands: its operation, storing condition and flags, which the interpreter carries packed and the gate machine apart.
 mod effect;
 mod flags;
 

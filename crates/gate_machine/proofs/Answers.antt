@@ -6,8 +6,8 @@ use Rattle.model.specs.declared.GateState.{GateState}
 use Rattle.model.specs.declared.Refusal.{Refusal}
 use Rattle.model.specs.declared.Verdict.{Verdict}
 use Rattle.model.specs.declared.Verdict.the-variants.{Accepted, Refused}
-use Rattle.model.specs.Refusals.{verdictNumber, leftBy, gateVerdict}
 use Rattle.model.specs.GateMachine.{Gate, gate, gateRun}
+use Rattle.model.specs.Refusals.{verdictNumber, leftBy, gateVerdict}
 use Rattle.model.specs.Agreement.{gateFrom}
 use Rattle.gate_machine.specs.declared.GateAnswer.{GateAnswer}
 use Rattle.gate_machine.specs.declared.GateResult.{GateResult}
@@ -27,7 +27,7 @@ module _ (memory waits : List ℕ) (start : GateState) (clocks : ℕ) {v : Verdi
 
 module _ {memory waits : List ℕ} {start : GateState} {clocks : ℕ} {v : Verdict} (said : v ≡ gateVerdict memory waits start) where
   pub run-carried : v ≡ Accepted → {s : GateState} {m : List ℕ} {f : ℕ} → gate s m f ≡ gateRun waits clocks (gateFrom start memory)
-      → GateRuns memory waits start clocks m (record { answer = GateAnswer.Ran; state = s; finished = f })
+      → GateRuns memory waits start clocks m (record { outcome = record { answer = GateAnswer.Ran; finished = f }; state = s })
   run-carried e q =
       record {
         result = ap (gateResult Accepted start) q ∙ returned memory waits start clocks said e;
@@ -36,7 +36,7 @@ module _ {memory waits : List ℕ} {start : GateState} {clocks : ℕ} {v : Verdi
       }
 
   pub run-refused : {why : Refusal} → v ≡ Refused why
-      → GateRuns memory waits start clocks memory (record { answer = GateAnswer.Refused why; state = start; finished = 0 })
+      → GateRuns memory waits start clocks memory (record { outcome = record { answer = GateAnswer.Refused why; finished = 0 }; state = start })
   run-refused e =
       record {
         result = returned memory waits start clocks said e;
@@ -47,10 +47,10 @@ module _ {memory waits : List ℕ} {start : GateState} {clocks : ℕ} {v : Verdi
 -- what a call that is carried out returns and leaves
 pub carried-out : (memory waits : List ℕ) (start : GateState) (clocks : ℕ) {memory′ : List ℕ} {r : GateResult}
     → gateVerdict memory waits start ≡ Accepted → GateRuns memory waits start clocks memory′ r
-    → gate (r .state) memory′ (r .finished) ≡ gateRun waits clocks (gateFrom start memory)
+    → gate (r .state) memory′ (r .outcome .finished) ≡ gateRun waits clocks (gateFrom start memory)
 unfolding gateReturned gateWords
 carried-out memory waits start clocks {memory′} {r} e h =
     let g = gateRun waits clocks (gateFrom start memory) in
     let p : r ≡ gateResult Accepted start g = h .result ∙ ap (λ (v : Verdict). gateResult v start g) e in
     let q : memory′ ≡ g .memory = h .words ∙ ap (λ (v : Verdict). leftBy v (g .memory) memory) e in
-    λ i. gate (p i .state) (q i) (p i .finished)
+    λ i. gate (p i .state) (q i) (p i .outcome .finished)

@@ -1,23 +1,22 @@
--- The two public calls, a gate run and one clock on a borrowed state, and the clock by value under the second: their results and the memory
--- at exit, carried out or turned down. Document 01, "Clocks" and "Why a call is turned down".
+-- The two public calls, a gate run and one clock on a borrowed state: their results and the memory at exit, carried out or turned down.
+-- Document 01, "Clocks" and "Why a call is turned down".
 use Prim.Native.Nat.{ℕ}
 use mathlib.Core.Path.{_≡_}
 use mathlib.Core.List.{List}
 use Rattle.model.specs.declared.GateState.{GateState}
 use Rattle.model.specs.declared.Verdict.{Verdict}
 use Rattle.model.specs.declared.Verdict.the-variants.{Accepted, Refused}
-use Rattle.model.specs.Refusals.{refusalNumber, verdictNumber, leftBy, gateVerdict}
 use Rattle.model.specs.GateMachine.{Gate, gateRun}
+use Rattle.model.specs.Refusals.{refusalNumber, verdictNumber, leftBy, gateVerdict}
 use Rattle.model.specs.Agreement.{gateFrom}
 use Rattle.gate_machine.specs.declared.GateAnswer.{GateAnswer}
+use Rattle.gate_machine.specs.declared.GateOutcome.{GateOutcome}
 use Rattle.gate_machine.specs.declared.GateResult.{GateResult}
-use Rattle.gate_machine.specs.declared.ClockResult.{ClockResult}
-use Rattle.gate_machine.specs.declared.Clocked.{Clocked}
 
 -- a gate run that is turned down returns its start, and has finished nothing
 abbrev pub gateResult : Verdict → GateState → Gate → GateResult
-gateResult Accepted start g = record { answer = GateAnswer.Ran; state = g .state; finished = g .finished }
-gateResult (Refused why) start g = record { answer = GateAnswer.Refused why; state = start; finished = 0 }
+gateResult Accepted start g = record { outcome = record { answer = GateAnswer.Ran; finished = g .finished }; state = g .state }
+gateResult (Refused why) start g = record { outcome = record { answer = GateAnswer.Refused why; finished = 0 }; state = start }
 
 -- document 01's number of an answer; 0 where the call was carried out
 abbrev pub gateNumber : GateAnswer → ℕ
@@ -36,25 +35,12 @@ gateWords memory waits start clocks = leftBy (gateVerdict memory waits start) (g
 pub record GateRuns (memory waits : List ℕ) (start : GateState) (clocks : ℕ) (memory′ : List ℕ) (r : GateResult) : Type 0 where
   pub result : r ≡ gateReturned memory waits start clocks
   pub words : memory′ ≡ gateWords memory waits start clocks
-  pub number : gateNumber (r .answer) ≡ verdictNumber (gateVerdict memory waits start)
+  pub number : gateNumber (r .outcome .answer) ≡ verdictNumber (gateVerdict memory waits start)
 
--- ---- one clock: a gate run of one
+-- ---- one clock: the outcome of a gate run of one, on the state that was lent, which is advanced
 
-abbrev pub clockResult : GateResult → ClockResult
-clockResult r = record { answer = r .answer; finished = r .finished }
-
-abbrev pub clockedOf : GateResult → Clocked
-clockedOf r = record { outcome = clockResult r; state = r .state }
-
--- by value
-pub record Clocks (memory waits : List ℕ) (state : GateState) (memory′ : List ℕ) (r : Clocked) : Type 0 where
-  pub result : r ≡ clockedOf (gateReturned memory waits state 1)
-  pub words : memory′ ≡ gateWords memory waits state 1
-  pub number : gateNumber (r .outcome .answer) ≡ verdictNumber (gateVerdict memory waits state)
-
--- on the state that was lent, which is advanced
-pub record LentClock (memory waits : List ℕ) (state : GateState) (memory′ : List ℕ) (state′ : GateState) (r : ClockResult) : Type 0 where
-  pub result : r ≡ clockResult (gateReturned memory waits state 1)
+pub record LentClock (memory waits : List ℕ) (state : GateState) (memory′ : List ℕ) (state′ : GateState) (r : GateOutcome) : Type 0 where
+  pub result : r ≡ gateReturned memory waits state 1 .outcome
   pub advanced : state′ ≡ gateReturned memory waits state 1 .state
   pub words : memory′ ≡ gateWords memory waits state 1
   pub number : gateNumber (r .answer) ≡ verdictNumber (gateVerdict memory waits state)

@@ -1,4 +1,4 @@
-// One clock on registers that are lent, and the loop over the clocks, which alone calls it.
+// One clock on borrowed registers, and the loop over the clocks, which alone calls it.
 use super::access::granted;
 use super::parts::latches_of;
 use super::parts::state_of;
@@ -14,8 +14,8 @@ ghost use mathlib.Core.Path.{_≡_};
 ghost use mathlib.Core.Bool.{cond};
 ghost use Prim.Native.Nat.{_+_, _≤_, _<_};
 ghost use lib.ListN.{length};
-ghost use Rattle.model.specs.Refusals.{mostWaits, gateVerdict};
 ghost use Rattle.model.specs.GateMachine.{gate, gateRun};
+ghost use Rattle.model.specs.Refusals.{mostWaits, gateVerdict};
 ghost use Rattle.model.specs.Agreement.{gateFrom};
 ghost use Rattle.step_table.specs.Table.{stepOf};
 ghost use Rattle.gate_rows.specs.Work.{stateOf};
@@ -38,7 +38,8 @@ fn tick(s: Latches, step: Step, regs: &mut [u32; 8], memory: &mut [u32], waits: 
     requires { ⌜ (step ≡ stepOf (s .row)) × (length (now waits) ≤ mostWaits) ⌝ }
     ensures { λ r. ⌜ Ticks (now (waits .entry)) (stateOf (now (regs .entry)) s) (now (memory .entry)) (stateOf (now (regs .exit)) (r .latches)) (r .finished) (now (memory .exit)) × Stands (now (waits .entry)) (stateOf (now (regs .exit)) (r .latches)) (now (memory .exit)) (r .stuck) ⌝ }
 {
-    let grant = granted(s, step.3 == ACCESS, memory.len(), waits);
+    let Step(_, _, _, mark) = step;
+    let grant = granted(s, mark == ACCESS, memory.len(), waits);
     let mut t = s;
     t.position = grant.position;
     t.left = grant.left;
@@ -53,7 +54,7 @@ fn tick(s: Latches, step: Step, regs: &mut [u32; 8], memory: &mut [u32], waits: 
     let u = work(t, step, regs, memory);
     Ticked {
         latches: u,
-        finished: step.3 == FINISHES,
+        finished: mark == FINISHES,
         stuck: false,
     }
 }

@@ -44,7 +44,7 @@ past-table {s} {step} {regs} {memory} h =
       words = λ i. sym e i g .memory;
     }
 
--- an operand prepares-operand, in memory where b holds, by the function and by the model's row
+-- an operand prepared, in memory where b holds, by the function and by the model's row
 module _ (step : Step) (o : Operand) (latch : ℕ → GateState → GateState) (s : GateState) where
   pub prepares-operand : (b : Bool) → b ≡ inMemory o → {regs : List ℕ} → regs ≡ stepDown o (s .regs) → {word : ℕ} → word ≡ registerWord o regs
       → cond b (withRow (memoryRow step) (withAddress word (withRegs regs s))) (withRow (directRow step) (latch word (withRegs regs s)))

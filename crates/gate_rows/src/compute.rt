@@ -1,6 +1,7 @@
 // Row 7: the arithmetic unit of gates, the flags, and where the result goes.
 use super::latches::Latches;
 use arithmetic::AluOut;
+use arithmetic::answer;
 use effects::flags_after_apart;
 use effects::is_move;
 use effects::operation_of;
@@ -24,13 +25,7 @@ fn unit_of(word: u32, flags: Flags, a: u32, b: u32) -> AluOut
     ensures { λ r. ⌜ r ≡ alu word flags a b ⌝ }
 {
     if is_move(word) {
-        return AluOut {
-            result: a,
-            carry: false,
-            overflow: false,
-            negative: 0x8000_0000 <= a,
-            zero: a == 0,
-        };
+        return answer(a, false, false);
     }
     gate_unit(operation_of(word), a, b, flags.carry)
 }

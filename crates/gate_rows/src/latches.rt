@@ -1,4 +1,4 @@
-// A gate state without its registers: a run lends those to each clock, and copies no array.
+// A gate state without its registers: each clock borrows those, and copies no array.
 // The small fields stand together, so that a copy has no gap to carry.
 use model::Flags;
 

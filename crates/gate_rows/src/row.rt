@@ -63,15 +63,16 @@ fn latch_b(mut s: Latches, x: u32, next: u8) -> Latches
 fn prepare(s: Latches, o: Operand, second: bool, regs: &mut [u32; 8], step: Step) -> Latches
     ensures { λ r. ⌜ stateOf (now (regs .exit)) r ≡ prepare o (memoryRow step) (directRow step) (cond second withB withA) (stateOf (now (regs .entry)) s) ⌝ }
 {
+    let Step(memory, direct, _, _) = step;
     step_down(o, &mut *regs);
     let word = register_word(o, &*regs);
     if in_memory(o) {
-        return latch_address(s, word, step.0);
+        return latch_address(s, word, memory);
     }
     if second {
-        return latch_b(s, word, step.1);
+        return latch_b(s, word, direct);
     }
-    latch_a(s, word, step.1)
+    latch_a(s, word, direct)
 }
 
 // The work of the row that the machine is in, with its step of the table; past the table there is none.
@@ -80,7 +81,7 @@ pub fn work(s: Latches, step: Step, regs: &mut [u32; 8], memory: &mut [u32]) -> 
 {
     let row = s.row;
     let word = s.instruction;
-    let next = step.0;
+    let Step(next, _, _, _) = step;
     match row {
         0 => latch_address(s, regs[0], next),
         1 => latch_instruction(s, load(&*memory, wide(s.address)), next),

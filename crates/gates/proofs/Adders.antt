@@ -1,7 +1,7 @@
 -- Any adder with its flags, at every width of k + 1 bits. Of the adder only this is used: its sum and its carry are worth what the two rows
 -- and the carry in are.
 use Prim.Native.Nat.{ℕ, suc, _+_, _*_, _^_}
-use mathlib.Core.Path.{_≡_, refl, ap, _∙_, subst}
+use mathlib.Core.Path.{_≡_, refl, ap, subst, _∙_}
 use mathlib.Core.Bool.{Bool, true, false, not, xor}
 use mathlib.Core.List.{List}
 use native.Mathlib.Omega.{arith}

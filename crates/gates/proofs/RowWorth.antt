@@ -3,12 +3,12 @@ use Prim.Native.Nat.{ℕ, suc, _+_, _*_, _/_, _%_, _^_, min, max}
 use mathlib.Core.Path.{_≡_, refl, sym, ap, ap₂, _∙_}
 use mathlib.Core.Bool.{Bool, true, false, _&&_, xor}
 use mathlib.Core.List.{List, [], _∷_, _++_}
-use native.Mathlib.Omega.{arith}
 use native.Mathlib.Nat.{suc-inj, pow-suc}
+use native.Mathlib.Omega.{arith}
 use lib.ListN.{length, getD}
 use lib.Bits.{bitAnd, bitOr, bitXor, differ, and-step, or-step, xor-step}
 use Rattle.arithmetic.specs.Words.{asNumber}
-use Rattle.arithmetic.proofs.Bits.{one, two, bit-le}
+use Rattle.arithmetic.proofs.Bits.{one, two, low-bit, high-bits}
 use Rattle.arithmetic.proofs.Integers.{weight}
 use Rattle.gates.specs.declared.control.Lines.{Lines}
 use Rattle.gates.specs.Gates.{value, select, entry, firstRow, secondRow}
@@ -45,12 +45,6 @@ table-value l op s d (x ∷ a) (y ∷ b) e =
     ∙ sym (d .more x y (value a) (value b))
 
 -- and, or, exclusive or: the kit's operations go by digits, with f on two digits
-half : (x : Bool) (a : ℕ) → (asNumber x + 2 * a) / 2 ≡ a
-half x a = omega (arith, bit-le x)
-
-odd : (x : Bool) (a : ℕ) → (asNumber x + 2 * a) % 2 ≡ asNumber x
-odd x a = omega (arith, bit-le x)
-
 by-digits : (t00 t01 t10 t11 : Bool) (op f : ℕ → ℕ → ℕ) → op 0 0 ≡ 0 → ((a b : ℕ) → op a b ≡ op (a / 2) (b / 2) * 2 + f (a % 2) (b % 2))
     → ((x y : Bool) → f (asNumber x) (asNumber y) ≡ asNumber (entry t00 t01 t10 t11 x y)) → Digits t00 t01 t10 t11 op
 by-digits t00 t01 t10 t11 op f z step digit =
@@ -59,7 +53,7 @@ by-digits t00 t01 t10 t11 op f z step digit =
       more =
           λ x y a b.
           step (asNumber x + 2 * a) (asNumber y + 2 * b)
-          ∙ ap₂ (λ (p q : ℕ). p * 2 + q) (ap₂ op (half x a) (half y b)) (ap₂ f (odd x a) (odd y b) ∙ digit x y)
+          ∙ ap₂ (λ (p q : ℕ). p * 2 + q) (ap₂ op (high-bits x a) (high-bits y b)) (ap₂ f (low-bit x a) (low-bit y b) ∙ digit x y)
           ∙ (let h : op a b * 2 + asNumber (entry t00 t01 t10 t11 x y) ≡ asNumber (entry t00 t01 t10 t11 x y) + 2 * op a b = omega arith in h);
     }
 
@@ -104,7 +98,7 @@ unfolding value
 shift-value k l [] b s ea eb = absurd (let h : 0 ≡ suc k = ea in omega arith)
 shift-value k l (x ∷ a) b s ea eb =
     ap value (shift-row l x a b s (eb ∙ sym ea)) ∙ value-snoc a (l .top)
-    ∙ ap₂ (λ (n m : ℕ). n + asNumber (l .top) * 2 ^ m) (sym (half x (value a))) (suc-inj ea)
+    ∙ ap₂ (λ (n m : ℕ). n + asNumber (l .top) * 2 ^ m) (sym (high-bits x (value a))) (suc-inj ea)
 
 -- ---- the second row
 
@@ -114,7 +108,6 @@ second-length l [] = refl
 second-length l (x ∷ a) = ap suc (second-length l a)
 
 -- what the second row adds or takes away is a's weight: a or nothing
-
 bit-taken : (s x : Bool) → asNumber (xor (x && s) false) ≡ weight s (asNumber x)
 unfolding xor
 bit-taken = two _ refl refl refl refl
@@ -124,8 +117,7 @@ unfolding xor
 bit-turned = two _ refl refl refl refl
 
 taken-more : (s : Bool) (x a : ℕ) → weight s (x + 2 * a) ≡ weight s x + 2 * weight s a
-taken-more true x a = refl
-taken-more false x a = refl
+taken-more s x a = one (λ s. weight s (x + 2 * a) ≡ weight s x + 2 * weight s a) refl refl s
 
 pub second-value : (l : Lines) → l .turn ≡ false → (a : List Bool) → value (secondRow l a) ≡ weight (l .second) (value a)
 unfolding value secondRow
@@ -135,7 +127,7 @@ second-value l t (x ∷ a) =
     ∙ ap₂ (λ (m n : ℕ). m + 2 * n) (bit-taken (l .second) x) (second-value l t a)
     ∙ sym (taken-more (l .second) (asNumber x) (value a))
 
--- the complement: together with what is weight away it is worth all ones
+-- the complement: together with what is taken away it is worth all ones
 pub second-turned : (l : Lines) → l .turn ≡ true → (a : List Bool) → value (secondRow l a) + weight (l .second) (value a) + 1 ≡ 2 ^ length a
 unfolding value secondRow
 second-turned l t [] = one (λ s. 0 + weight s 0 + 1 ≡ 1) refl refl (l .second)

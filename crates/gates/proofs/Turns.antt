@@ -4,11 +4,11 @@ use Prim.Native.Nat.{ℕ, zero, suc, _+_, _/_, _%_, _^_, _≤_, _<_}
 use mathlib.Core.Path.{_≡_, refl, sym, ap, _∙_}
 use mathlib.Core.Bool.{Bool, false}
 use mathlib.Core.List.{List, [], _∷_, _++_, append-assoc, append-nil}
+use native.Mathlib.Nat.{add-zero, le-of-suc-le-suc, div-one, div-div-eq-div-mul, pow-succ'}
 use native.Mathlib.Numerals.{add-one}
 use native.Mathlib.Omega.{arith}
-use native.Mathlib.Nat.{add-zero, le-of-suc-le-suc, div-one, div-div-eq-div-mul, pow-succ'}
-use lib.ListN.{length, take, drop, getD, set, drop-of-length-le}
 use lib.Dec.{eqb}
+use lib.ListN.{length, take, drop, getD, set, drop-of-length-le}
 use lib.Seq.{take-suc-set, drop-cons, take-all, getD-drop}
 use Rattle.gates.specs.declared.control.Lines.{Lines}
 use Rattle.gates.specs.Gates.{bitsOf, fullSum, fullCarry, rippleSum, rippleCarry, firstBit, secondBit, firstRow, secondRow}

@@ -1,17 +1,17 @@
 -- What rows of bits are worth, at every width: each law by one induction over the row.
 use Prim.Native.Nat.{ℕ, zero, suc, _+_, _-_, _*_, _/_, _%_, _^_, _≤_, _<_}
-use mathlib.Core.Path.{_≡_, refl, sym, ap, _∙_, subst}
+use mathlib.Core.Path.{_≡_, refl, sym, ap, subst, _∙_}
 use mathlib.Core.Bool.{Bool, true, false, not, xor}
 use mathlib.Core.List.{List, [], _∷_, _++_}
+use native.Mathlib.Nat.{suc-inj, pow-suc, mul-comm, mul-assoc, le-trans, sub-le, lt-of-lt-of-le}
 use native.Mathlib.Omega.{arith}
-use native.Mathlib.Nat.{suc-inj, pow-suc, mul-comm, mul-assoc, le-of-eq, le-trans, sub-le, lt-of-lt-of-le}
-use lib.ListN.{length, drop, getD, length-drop, drop-of-length-le}
+use lib.Dec.{eqb}
+use lib.ListN.{length, drop, getD, length-drop}
 use lib.Seq.{drop-cons}
 use lib.Pow.{pow-mono}
-use lib.Dec.{eqb}
 use borrow.Author.Tests.{ne-eqb}
 use Rattle.arithmetic.specs.Words.{asNumber, topOf}
-use Rattle.arithmetic.proofs.Bits.{three, bit-le, bit-digit}
+use Rattle.arithmetic.proofs.Bits.{three, bit-le, digit-bit, bit-digit, low-bit}
 use Rattle.arithmetic.proofs.Integers.{same-leb}
 use Rattle.gates.specs.Gates.{value, bitsOf, fullSum, fullCarry, rippleSum, rippleCarry, anyOf}
 use Rattle.gates.specs.Theorems.{RippleAdds}
@@ -60,8 +60,7 @@ value-top (suc k) (b ∷ l) e =
 pub value-low : (l : List Bool) → eqb (value l % 2) 1 ≡ getD l 0 false
 unfolding value
 value-low [] = refl
-value-low (true ∷ l) = ap (λ (n : ℕ). eqb n 1) (let h : (1 + 2 * value l) % 2 ≡ 1 = omega arith in h)
-value-low (false ∷ l) = ap (λ (n : ℕ). eqb n 1) (let h : (0 + 2 * value l) % 2 ≡ 0 = omega arith in h)
+value-low (b ∷ l) = digit-bit b (low-bit b (value l))
 
 -- a row is worth nothing where no bit of it is 1
 pub value-none : (l : List Bool) → not (anyOf l) ≡ eqb (value l) 0
@@ -88,9 +87,6 @@ value-snoc [] t = omega arith
 value-snoc (b ∷ l) t = omega (arith, value-snoc l t, double (asNumber t) (length l))
 
 -- ---- a row read from the top down
-
-pub row-end : (l : List Bool) → drop (length l) l ≡ []
-row-end l = drop-of-length-le l (le-of-eq refl)
 
 pub row-drop : (l : List Bool) (i : ℕ) → 0 < i → i ≤ length l → drop (i - 1) l ≡ getD l (i - 1) false ∷ drop i l
 row-drop l zero h g = absurd (let k : 0 < 0 = h in omega arith)

@@ -3,8 +3,8 @@
 use Prim.Native.Nat.{ℕ, zero, suc, _+_, _*_, _/_, _%_}
 use mathlib.Core.Bool.{Bool, false, not, _&&_, _||_, xor}
 use mathlib.Core.List.{List, [], _∷_}
-use lib.ListN.{getD}
 use lib.Dec.{eqb}
+use lib.ListN.{getD}
 use Rattle.arithmetic.specs.Words.{asNumber}
 use Rattle.gates.specs.declared.control.Lines.{Lines}
 

@@ -1,7 +1,7 @@
 // Words and single bits; rows of bits read from the top down.
 ghost use mathlib.Core.Path.{_≡_};
 ghost use mathlib.Core.Bool.{false};
-ghost use Prim.Native.Nat.{_+_, _<_, _≤_};
+ghost use Prim.Native.Nat.{_+_, _≤_, _<_};
 ghost use lib.ListN.{length, getD};
 ghost use Rattle.gates.specs.Gates.{value, bitsOf, anyOf};
 

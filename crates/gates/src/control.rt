@@ -4,23 +4,23 @@ ghost use Rattle.gates.specs.Gates.{select, linesOf};
 
 // What steers the rows and the flags.
 pub struct Lines {
-    // the table of the first row's generator, by the bits of a and b
+    // The table of the first row's generator, by the bits of a and b.
     pub t00: bool,
     pub t01: bool,
     pub t10: bool,
     pub t11: bool,
-    // the first row is a shifted down, with the bit that comes in at the top
+    // The first row is a shifted down, with the bit that comes in at the top.
     pub shift: bool,
     pub top: bool,
-    // a is in the second row
+    // Whether a is in the second row.
     pub second: bool,
-    // a difference: the second row is complemented, and the carry out turned round
+    // A difference: the second row is complemented, and the carry out turned round.
     pub turn: bool,
-    // the adder's carry in
+    // The adder's carry in.
     pub carry: bool,
 }
 
-// A selector: q where s is 1, else p.
+// A selector: `q` where `s` is 1, else `p`.
 pub fn selector(s: bool, p: bool, q: bool) -> bool
     ensures { λ r. ⌜ r ≡ select s p q ⌝ }
 {

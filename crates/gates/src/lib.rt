@@ -32,9 +32,9 @@ pub fn gate_unit(operation: u8, a: u32, b: u32, carry: bool) -> AluOut
     let top = sum[31];
     AluOut {
         result: from_bits(&sum),
-        // the carry of a sum, the borrow of a difference, or the bit that a shift drops
+        // The carry of a sum, the borrow of a difference, or the bit that a shift drops.
         carry: (l.shift & bit(a, 0)) | (c ^ l.turn),
-        // both rows have the sign that their sum has not
+        // Both rows have the sign that their sum has not.
         overflow: (first[31] ^ top) & (second[31] ^ top),
         negative: top,
         zero: !any(&sum),

@@ -24,7 +24,7 @@ pub fn adder_rows(l: Lines, a: u32, b: u32, first: &mut [bool], second: &mut [bo
     while i < 32 {
         let x = bit(a, i);
         first[i] = first_bit(l, x, bit(b, i), above(a, i, l.top));
-        // the bit of a or nothing, complemented for a difference
+        // The bit of a or nothing, complemented for a difference.
         second[i] = (x & l.second) ^ l.turn;
         i += 1;
     }

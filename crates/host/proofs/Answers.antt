@@ -14,27 +14,23 @@ use Rattle.image.specs.declared.WriteAnswer.{WriteAnswer}
 use Rattle.image.specs.Calls.{Reads, Writes}
 use Rattle.host_reading.specs.declared.MachineLent.{MachineLent}
 use Rattle.host_reading.specs.declared.StateLent.{StateLent}
-use Rattle.host_reading.specs.Layout.{runPlaces, countPlaces, machineSize, machineIn, machineFormed, stateSize, machineLent, stateLent}
-use Rattle.host_reading.proofs.Lengths.{machine-tests, state-tests}
+use Rattle.host_reading.specs.Layout.{runPlaces, countPlaces, machineSize, stateSize, lentFormed, machineLent, stateLent}
+use Rattle.host_reading.proofs.Lengths.{lent-tests}
 use Rattle.host_reading.proofs.Starts.{machine-misfits, machine-formed, machine-start, state-misfits, state-formed, state-start}
 use Rattle.host_ends.specs.Codes.{misfit, codeIf, afterCall, Ends, RunEnds, FileEnds, GateEnds, ReadEnds, WriteEnds}
 use Rattle.host_ends.proofs.Fitting.{ends-fitting}
 use Rattle.host.specs.Calls.{RunCall, FileCall, GateCall, ReadCall, WriteCall}
 
--- a call on a lent machine that is formed: what it starts from, and its end
+-- the end of a call on a lent machine that is formed
 module _ (machine result : List ℕ) (due : ℕ) (lent : MachineLent) (e : lent ≡ machineLent machine (length result) due)
     (n : not (lent .formed) ≡ false) where
-  well : machineFormed (length machine) (length result) due ≡ true
-  well = machine-formed machine (length result) due lent e n
-
-  from : lent .machine ≡ machineIn machine
-  from = machine-start machine (length result) due lent e n
-
   ended : {code : ℕ} {words counts machine′ result′ : List ℕ} {number : ℕ}
       → Ends code machineSize words due counts machine result machine′ result′ number
-      → let comes = codeIf (machineFormed (length machine) (length result) due) code in
+      → let comes = codeIf (lentFormed machineSize due (length machine) (length result)) code in
       (number ≡ comes) × (machine′ ≡ afterCall comes words machine) × (result′ ≡ afterCall comes counts result)
-  ended g = ends-fitting _ well machineSize due _ _ _ machine result _ _ _ (machine-tests (length machine) (length result) due well) g
+  ended g =
+      let f = machine-formed machine (length result) due lent e n in
+      ends-fitting _ f machineSize due _ _ _ machine result _ _ _ (lent-tests machineSize due (length machine) (length result) f) g
 
 module _ (memory waits machine : List ℕ) (count : ℕ) (result : List ℕ) (lent : MachineLent)
     (e : lent ≡ machineLent machine (length result) runPlaces) where
@@ -47,8 +43,8 @@ module _ (memory waits machine : List ℕ) (count : ℕ) (result : List ℕ) (le
       → (machine′ result′ : List ℕ) (number : ℕ) → RunEnds r machine result machine′ result′ number
       → RunCall memory waits machine count result memory′ machine′ result′ number
   run-formed n r memory′ runs machine′ result′ number g =
-      let f = well machine result runPlaces lent e n in
-      let start = from machine result runPlaces lent e n in
+      let f = machine-formed machine (length result) runPlaces lent e n in
+      let start = machine-start machine (length result) runPlaces lent e n in
       let same = rw start at (runs .result) in
       let ends = ended machine result runPlaces lent e n g in
       record {
@@ -70,8 +66,8 @@ module _ (memory journal machine : List ℕ) (count : ℕ) (result : List ℕ) (
       → FileEnds r machine result machine′ result′ number
       → FileCall memory journal machine count result memory′ journal′ machine′ result′ number
   file-formed n r memory′ journal′ runs machine′ result′ number g =
-      let f = well machine result runPlaces lent e n in
-      let start = from machine result runPlaces lent e n in
+      let f = machine-formed machine (length result) runPlaces lent e n in
+      let start = machine-start machine (length result) runPlaces lent e n in
       let same = rw start at (runs .result) in
       let ends = ended machine result runPlaces lent e n g in
       record {
@@ -95,7 +91,7 @@ module _ (memory waits state : List ℕ) (clocks : ℕ) (result : List ℕ) (len
       let f = state-formed state (length result) lent e n in
       let start = state-start state (length result) lent e n in
       let same = rw start at (runs .result) in
-      let h = state-tests (length state) (length result) f in
+      let h = lent-tests stateSize countPlaces (length state) (length result) f in
       let ends = ends-fitting _ f stateSize countPlaces _ _ _ state result _ _ _ h g in
       record {
         returned = rw (← same) (ends .0);
@@ -114,7 +110,7 @@ module _ (bytes memory machine result : List ℕ) (lent : MachineLent) (e : lent
       → (machine′ result′ : List ℕ) (number : ℕ) → ReadEnds r machine result machine′ result′ number
       → ReadCall bytes memory machine result memory′ machine′ result′ number
   read-formed n r memory′ reads machine′ result′ number g =
-      let f = well machine result countPlaces lent e n in
+      let f = machine-formed machine (length result) countPlaces lent e n in
       let same = reads .result in
       let ends = ended machine result countPlaces lent e n g in
       record {
@@ -136,7 +132,7 @@ module _ (memory machine out result : List ℕ) (lent : MachineLent) (e : lent �
       let f = machine-formed machine (length result) countPlaces lent e n in
       let start = machine-start machine (length result) countPlaces lent e n in
       let same = rw start at (writes .result) in
-      let h = machine-tests (length machine) (length result) countPlaces f in
+      let h = lent-tests machineSize countPlaces (length machine) (length result) f in
       record {
         returned = rw (f, ← same) (g .returned);
         bytes = rw f (rw start at (writes .bytes));

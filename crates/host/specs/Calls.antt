@@ -14,7 +14,7 @@ use Rattle.gate_machine.specs.Calls.{gateNumber, gateReturned, gateWords}
 use Rattle.image.specs.declared.ReadResult.{ReadResult}
 use Rattle.image.specs.declared.WriteAnswer.{WriteAnswer}
 use Rattle.image.specs.Calls.{writeNumber, writeReturned, writeBytes, readNumber, readReturned, readWords}
-use Rattle.host_reading.specs.Layout.{runPlaces, countPlaces, machineIn, machineFormed, stateIn, stateFormed}
+use Rattle.host_reading.specs.Layout.{runPlaces, countPlaces, machineSize, machineIn, stateSize, stateIn, lentFormed}
 use Rattle.host_words.specs.Words.{machineWords, stateWords}
 use Rattle.host_ends.specs.Codes.{codeIf, afterCall, runCode, fileCode}
 use Rattle.host_ends.specs.Codes.{runCounts, fileCounts, gateCounts, readCounts, writeCounts}
@@ -26,7 +26,7 @@ use Rattle.host_ends.specs.Codes.{runCounts, fileCounts, gateCounts, readCounts
 
 module _ (memory waits machine : List ℕ) (count : ℕ) (result : List ℕ) where
   abbrev pub runFormed : Bool
-  runFormed = machineFormed (length machine) (length result) runPlaces
+  runFormed = lentFormed machineSize runPlaces (length machine) (length result)
 
   abbrev pub runWithin : RunResult
   runWithin = runReturned memory waits (machineIn machine) count
@@ -44,7 +44,7 @@ module _ (memory waits machine : List ℕ) (count : ℕ) (result : List ℕ) whe
 
 module _ (memory journal machine : List ℕ) (count : ℕ) (result : List ℕ) where
   abbrev pub fileFormed : Bool
-  fileFormed = machineFormed (length machine) (length result) runPlaces
+  fileFormed = lentFormed machineSize runPlaces (length machine) (length result)
 
   abbrev pub fileWithin : FileResult
   fileWithin = fileReturned memory journal (machineIn machine) count
@@ -63,13 +63,13 @@ module _ (memory journal machine : List ℕ) (count : ℕ) (result : List ℕ) w
 
 module _ (memory waits state : List ℕ) (clocks : ℕ) (result : List ℕ) where
   abbrev pub gateFormed : Bool
-  gateFormed = stateFormed (length state) (length result)
+  gateFormed = lentFormed stateSize countPlaces (length state) (length result)
 
   abbrev pub gateWithin : GateResult
   gateWithin = gateReturned memory waits (stateIn state) clocks
 
   abbrev pub gateComesTo : ℕ
-  gateComesTo = codeIf gateFormed (gateNumber (gateWithin .answer))
+  gateComesTo = codeIf gateFormed (gateNumber (gateWithin .outcome .answer))
 
   pub record GateCall (memory′ state′ result′ : List ℕ) (number : ℕ) : Type 0 where
     pub returned : number ≡ gateComesTo
@@ -81,7 +81,7 @@ module _ (memory waits state : List ℕ) (clocks : ℕ) (result : List ℕ) wher
 
 module _ (bytes memory machine result : List ℕ) where
   abbrev pub readFormed : Bool
-  readFormed = machineFormed (length machine) (length result) countPlaces
+  readFormed = lentFormed machineSize countPlaces (length machine) (length result)
 
   abbrev pub readWithin : ReadResult
   readWithin = readReturned bytes memory
@@ -99,7 +99,7 @@ module _ (bytes memory machine result : List ℕ) where
 
 module _ (memory machine out result : List ℕ) where
   abbrev pub writeFormed : Bool
-  writeFormed = machineFormed (length machine) (length result) countPlaces
+  writeFormed = lentFormed machineSize countPlaces (length machine) (length result)
 
   abbrev pub writeWithin : WriteAnswer
   writeWithin = writeReturned memory (machineIn machine) out

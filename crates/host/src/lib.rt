@@ -12,7 +12,7 @@ use host_reading::machine_lent;
 use host_reading::state_lent;
 ghost use Rattle.host.specs.Calls.{RunCall, FileCall, GateCall, ReadCall, WriteCall};
 
-// A run of the interpreter. result: instructions that ran, clock total.
+// A run of the interpreter. `result`: instructions that ran, clock total.
 #[no_mangle]
 pub extern "C" fn fm8502_run(
     memory: &mut [u32],
@@ -31,7 +31,7 @@ pub extern "C" fn fm8502_run(
     end_run(r, &mut *machine, &mut *result)
 }
 
-// A file run. result: instructions that ran, pairs in the journal.
+// A file run. `result`: instructions that ran, pairs in the journal.
 #[no_mangle]
 pub extern "C" fn fm8502_file_run(
     memory: &mut [u32],
@@ -50,7 +50,7 @@ pub extern "C" fn fm8502_file_run(
     end_file_run(r, &mut *machine, &mut *result)
 }
 
-// A gate run. result: instructions finished.
+// A gate run. `result`: instructions finished.
 #[no_mangle]
 pub extern "C" fn fm8502_gate_run(
     memory: &mut [u32],
@@ -69,7 +69,7 @@ pub extern "C" fn fm8502_gate_run(
     end_gate_run(r, &mut *state, &mut *result)
 }
 
-// One clock. result: instructions finished.
+// One clock. `result`: instructions finished.
 #[no_mangle]
 pub extern "C" fn fm8502_clock(
     memory: &mut [u32],
@@ -82,7 +82,7 @@ pub extern "C" fn fm8502_clock(
     fm8502_gate_run(&mut *memory, waits, &mut *state, 1, &mut *result)
 }
 
-// Reads an image: its words to the front of memory, its machine. result: the image's words.
+// Reads an image: its words to the front of `memory`, its machine. `result`: the image's words.
 #[no_mangle]
 pub extern "C" fn fm8502_image_read(
     bytes: &[u8],
@@ -100,7 +100,7 @@ pub extern "C" fn fm8502_image_read(
     end_read(r, &mut *machine, &mut *result)
 }
 
-// Writes the image of a machine and its memory to the front of out. result: the image's bytes.
+// Writes the image of a machine and its memory to the front of `out`. `result`: the image's bytes.
 #[no_mangle]
 pub extern "C" fn fm8502_image_write(
     memory: &[u32],

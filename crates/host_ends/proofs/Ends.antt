@@ -37,7 +37,7 @@ module _ (code size : ℕ) (words : List ℕ) (due : ℕ) (counts lent result : 
   ends-refused why e number n = ends-unwritten (rw e (turned-down why)) number (rw e n)
 
 module _ (lent result lent′ result′ : List ℕ) where
-  pub gate-done : (r : GateResult) → r .answer ≡ GateAnswer.Ran → lent′ ≡ laid stateSize (stateWords (r .state)) lent
+  pub gate-done : (r : GateResult) → r .outcome .answer ≡ GateAnswer.Ran → lent′ ≡ laid stateSize (stateWords (r .state)) lent
       → result′ ≡ laid countPlaces (gateCounts r) result → GateEnds r lent result lent′ result′ done
   gate-done r e w p = record { returned = rw e; parts = rw e w; numbers = rw e p }
 

@@ -1,3 +1,2 @@
-mod Numbers
 mod Ends
 pub mod Fitting

@@ -64,7 +64,7 @@ fileCounts r = r .ran ∷ r .pairs ∷ []
 
 -- the instructions finished
 abbrev pub gateCounts : GateResult → List ℕ
-gateCounts r = r .finished ∷ []
+gateCounts r = r .outcome .finished ∷ []
 
 -- the image's words
 abbrev pub readCounts : ReadResult → List ℕ
@@ -77,7 +77,7 @@ writeCounts r = writeSize r ∷ []
 -- ---- the ends
 
 -- A call's end: the code that it returns, and what it leaves of a lent machine or state and of a lent result. A machine's parts are its
--- registers and flags, a state's its registers, flags, row and latches.
+-- registers and flags, a state's also its row, latches, list position and access.
 module _ (code size : ℕ) (words : List ℕ) (due : ℕ) (counts : List ℕ) where
   pub record Ends (lent result lent′ result′ : List ℕ) (number : ℕ) : Type 0 where
     pub returned : number ≡ code
@@ -91,7 +91,7 @@ abbrev pub FileEnds : FileResult → (machine result machine′ result′ : List
 FileEnds r = Ends (fileCode (r .answer)) machineSize (machineWords (r .machine)) runPlaces (fileCounts r)
 
 abbrev pub GateEnds : GateResult → (state result state′ result′ : List ℕ) → ℕ → Type 0
-GateEnds r = Ends (gateNumber (r .answer)) stateSize (stateWords (r .state)) countPlaces (gateCounts r)
+GateEnds r = Ends (gateNumber (r .outcome .answer)) stateSize (stateWords (r .state)) countPlaces (gateCounts r)
 
 abbrev pub ReadEnds : ReadResult → (machine result machine′ result′ : List ℕ) → ℕ → Type 0
 ReadEnds r = Ends (readNumber (r .answer)) machineSize (machineWords (r .machine)) countPlaces (readCounts r)

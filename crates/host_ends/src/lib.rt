@@ -76,12 +76,13 @@ pub fn end_file_run(r: FileResult, machine: &mut [u32], result: &mut [u64]) -> u
 pub fn end_gate_run(r: GateResult, state: &mut [u32], result: &mut [u64]) -> u32
     ensures { λ code. ⌜ GateEnds r (now (state .entry)) (now (result .entry)) (now (state .exit)) (now (result .exit)) code ⌝ }
 {
-    let answer = r.answer;
+    let outcome = r.outcome;
+    let answer = outcome.answer;
     match answer {
         GateAnswer::Refused(why) => refusal_number(why),
         GateAnswer::Ran => {
             put_state(r.state, &mut *state);
-            put_one(r.finished, &mut *result);
+            put_one(outcome.finished, &mut *result);
             DONE
         }
     }

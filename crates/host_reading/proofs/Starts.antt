@@ -10,7 +10,7 @@ use Rattle.model.specs.declared.GateState.{GateState}
 use Rattle.model.specs.Words.{wordAt}
 use Rattle.host_reading.specs.declared.MachineLent.{MachineLent}
 use Rattle.host_reading.specs.declared.StateLent.{StateLent}
-use Rattle.host_reading.specs.Layout.{rowIn, leftIn, machineIn, machineFormed, stateAround, stateIn, stateFormed, wordsIf, machineLent, stateLent}
+use Rattle.host_reading.specs.Layout.{countPlaces, machineSize, machineIn, stateSize, rowIn, leftIn, stateAround, stateIn, lentFormed, wordsIf, machineLent, stateLent}
 
 pub state-from : (words : List ℕ) (m : Machine) → m ≡ machineIn words → (row : ℕ) → row ≡ rowIn (wordAt words 12) (wordAt words 20)
     → (left : ℕ) → left ≡ leftIn (wordAt words 20) → stateAround words m row left ≡ stateIn words
@@ -18,27 +18,27 @@ unfolding stateIn
 state-from words m e row f left g = rw (e, f, g)
 
 module _ (words : List ℕ) (places due : ℕ) where
-  pub machine-lent-from : (m : Machine) (formed : Bool) → formed ≡ machineFormed (length words) places due
+  pub machine-lent-from : (m : Machine) (formed : Bool) → formed ≡ lentFormed machineSize due (length words) places
       → m ≡ machineIn (wordsIf formed words) → record { formed = formed; machine = m } ≡ machineLent words places due
   unfolding machineLent
   machine-lent-from m formed f e = rw (e, f)
 
-pub state-lent-from : (words : List ℕ) (places : ℕ) (s : GateState) (formed : Bool) → formed ≡ stateFormed (length words) places
+pub state-lent-from : (words : List ℕ) (places : ℕ) (s : GateState) (formed : Bool) → formed ≡ lentFormed stateSize countPlaces (length words) places
     → s ≡ stateIn (wordsIf formed words) → record { formed = formed; state = s } ≡ stateLent words places
 unfolding stateLent
 state-lent-from words places s formed f e = rw (e, f)
 
 -- a call that is turned down, and one that goes on from the words that it was lent
 module _ (words : List ℕ) (places due : ℕ) (r : MachineLent) (e : r ≡ machineLent words places due) where
-  tested : r .formed ≡ machineFormed (length words) places due
+  tested : r .formed ≡ lentFormed machineSize due (length words) places
   unfolding machineLent
   tested = ap (λ (l : MachineLent). l .formed) e
 
-  pub machine-misfits : not (r .formed) ≡ true → machineFormed (length words) places due ≡ false
+  pub machine-misfits : not (r .formed) ≡ true → lentFormed machineSize due (length words) places ≡ false
   machine-misfits n = sym tested ∙ not-true _ n
 
   module _ (n : not (r .formed) ≡ false) where
-    pub machine-formed : machineFormed (length words) places due ≡ true
+    pub machine-formed : lentFormed machineSize due (length words) places ≡ true
     machine-formed = sym tested ∙ not-false _ n
 
     pub machine-start : r .machine ≡ machineIn words
@@ -46,15 +46,15 @@ module _ (words : List ℕ) (places due : ℕ) (r : MachineLent) (e : r ≡ mach
     machine-start = ap (λ (l : MachineLent). l .machine) e ∙ rw machine-formed
 
 module _ (words : List ℕ) (places : ℕ) (r : StateLent) (e : r ≡ stateLent words places) where
-  state-tested : r .formed ≡ stateFormed (length words) places
+  state-tested : r .formed ≡ lentFormed stateSize countPlaces (length words) places
   unfolding stateLent
   state-tested = ap (λ (l : StateLent). l .formed) e
 
-  pub state-misfits : not (r .formed) ≡ true → stateFormed (length words) places ≡ false
+  pub state-misfits : not (r .formed) ≡ true → lentFormed stateSize countPlaces (length words) places ≡ false
   state-misfits n = sym state-tested ∙ not-true _ n
 
   module _ (n : not (r .formed) ≡ false) where
-    pub state-formed : stateFormed (length words) places ≡ true
+    pub state-formed : lentFormed stateSize countPlaces (length words) places ≡ true
     state-formed = sym state-tested ∙ not-false _ n
 
     pub state-start : r .state ≡ stateIn words

@@ -1,6 +1,7 @@
--- Where a machine and a gate state stand in the words that a host lends. Document 01, "Machine and instruction word" and "Clocks".
+-- Where a machine and a gate state stand in the words that a host lends, how many words and result places are due, and what a call starts
+-- from. Document 01, "Machine and instruction word", "Clocks" and, for words that no state can have, reason 4 of "Why a call is turned down".
 use Prim.Native.Nat.{ℕ, min}
-use mathlib.Core.Bool.{Bool, cond, not, _&&_}
+use mathlib.Core.Bool.{Bool, not, cond, _&&_}
 use mathlib.Core.List.{List, [], _∷_}
 use lib.Dec.{eqb, leb}
 use lib.ListN.{length}
@@ -55,10 +56,6 @@ flagsIn words =
 unfoldable pub machineIn : List ℕ → Machine
 machineIn words = machineWith (registersIn words) (flagsIn words)
 
--- whether so many words are a machine's, and so many result places those due
-unfoldable pub machineFormed : (words places due : ℕ) → Bool
-machineFormed words places due = eqb words machineSize && eqb places due
-
 -- ---- 21 words: the machine's 12, row, the latches, position, whether an access has begun, its clocks left
 
 abbrev pub stateSize : ℕ
@@ -97,21 +94,21 @@ module _ (words : List ℕ) (m : Machine) (row left : ℕ) where
 unfoldable pub stateIn : List ℕ → GateState
 stateIn words = stateAround words (machineIn words) (rowIn (wordAt words 12) (wordAt words 20)) (leftIn (wordAt words 20))
 
--- whether so many words are a gate state's, and so many result places those due
-unfoldable pub stateFormed : (words places : ℕ) → Bool
-stateFormed words places = eqb words stateSize && eqb places countPlaces
-
 -- ---- what a call starts from: the words, or none where what is lent does not fit; a word that is not there counts as 0
+
+-- whether a machine or a state of a size has so many words, and a result so many places as are due
+unfoldable pub lentFormed : (size due words places : ℕ) → Bool
+lentFormed size due words places = eqb words size && eqb places due
 
 abbrev pub wordsIf : Bool → List ℕ → List ℕ
 wordsIf formed words = cond formed words []
 
 unfoldable pub machineLent : List ℕ → (places due : ℕ) → MachineLent
 machineLent words places due =
-    let formed = machineFormed (length words) places due in
+    let formed = lentFormed machineSize due (length words) places in
     record { formed = formed; machine = machineIn (wordsIf formed words) }
 
 unfoldable pub stateLent : List ℕ → (places : ℕ) → StateLent
 stateLent words places =
-    let formed = stateFormed (length words) places in
+    let formed = lentFormed stateSize countPlaces (length words) places in
     record { formed = formed; state = stateIn (wordsIf formed words) }

@@ -2,8 +2,7 @@
 mod formed;
 mod reading;
 
-use formed::machine_formed;
-use formed::state_formed;
+use formed::lent_formed;
 use model::GateState;
 use model::Machine;
 use reading::machine_in;
@@ -15,10 +14,10 @@ pub const MACHINE_SIZE: usize = 12;
 
 pub const STATE_SIZE: usize = 21;
 
-// The result's places due: of a run and a file run.
+// The result's places of a run and a file run.
 pub const RUN_PLACES: usize = 2;
 
-// The place due of one count: of a gate run and one clock, of a read and a write of an image.
+// The result's place of every other call.
 pub const COUNT_PLACES: usize = 1;
 
 // A machine, and whether what is lent has the layout's lengths; all 0 where it has not.
@@ -35,7 +34,7 @@ pub struct StateLent {
 pub fn machine_lent(words: &[u32], places: usize, due: usize) -> MachineLent
     ensures { λ r. ⌜ r ≡ machineLent (now (words .entry)) places due ⌝ }
 {
-    if machine_formed(words.len(), places, due) {
+    if lent_formed(MACHINE_SIZE, due, words.len(), places) {
         return MachineLent {
             formed: true,
             machine: machine_in(words),
@@ -50,7 +49,7 @@ pub fn machine_lent(words: &[u32], places: usize, due: usize) -> MachineLent
 pub fn state_lent(words: &[u32], places: usize) -> StateLent
     ensures { λ r. ⌜ r ≡ stateLent (now (words .entry)) places ⌝ }
 {
-    if state_formed(words.len(), places) {
+    if lent_formed(STATE_SIZE, COUNT_PLACES, words.len(), places) {
         return StateLent {
             formed: true,
             state: state_in(words),

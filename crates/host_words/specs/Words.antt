@@ -13,7 +13,7 @@ use Rattle.host_reading.specs.Layout.{registersIn}
 unfoldable pub machineWords : Machine → List ℕ
 machineWords m = registersIn (m .regs) ++ flagNumbers (m .flags)
 
--- the machine's words, then the nine of the latches
+-- the machine's words, then the nine of row, latches, list position and access
 abbrev pub stateWords : GateState → List ℕ
 stateWords s = machineWords (machineOf s) ++ latchWords s
 

@@ -1,57 +1,49 @@
 -- Whatever is left of an image once bytes are missing at its end is refused with 8.
-use Prim.Native.Nat.{ℕ, zero, suc, _+_, _*_, _-_, _^_, _≤_, _<_, min}
+use Prim.Native.Nat.{ℕ, zero, suc, _+_, _-_, _*_, _^_, _≤_, _<_, min}
 use mathlib.Core.Path.{_≡_, refl, sym, ap, subst, _∙_}
-use mathlib.Core.Bool.{Bool, true, false}
+use mathlib.Core.Bool.{Bool, true}
 use mathlib.Core.List.{List, [], _∷_, _++_, append-assoc}
 use native.Mathlib.Decide.{decLt}
 use native.Mathlib.Omega.{arith}
 use lib.Dec.{leb, lit<}
 use lib.ListN.{length, take, drop, length-append, length-take}
 use lib.Seq.{take-append-add}
-use borrow.Author.Tests.{le-leb, lt-leb, eq-eqb}
-use Rattle.model.specs.declared.Refusal.{Refusal}
+use borrow.Author.Tests.{le-leb}
 use Rattle.model.specs.declared.Refusal.the-variants.{CutImage, WrongVersion, BadFlag}
 use Rattle.model.specs.declared.Verdict.{Verdict}
 use Rattle.model.specs.declared.Verdict.the-variants.{Accepted, Refused}
-use Rattle.model.specs.Refusals.{demand, _then_, mostWords}
 use Rattle.model.specs.Packed.{flagNumbers}
+use Rattle.model.specs.Refusals.{demand, mostWords}
 use Rattle.image.specs.Bytes.{bytesOf, numberIn, wordBytes, wordsIn, Below}
 use Rattle.image.specs.Format.{Field, fieldBytes, isVersion, versionField, registersField, flagsField, countField, wordsField, endField, wordsPerField, fieldsFor, memoryFields, imageOf}
-use Rattle.image.specs.Reading.{Outcome, refused, _▷_, headerVerdict, fieldVerdict, readField, readMemory, readOf}
+use Rattle.image.specs.Reading.{Outcome, refused, _▷_, fieldVerdict, readField, readMemory, readOf}
 use Rattle.image.specs.Theorems.{Cut}
-use Rattle.image.proofs.Bytes.{no-elements, length-bytes, number-bytes, below-drop, length-word-bytes}
+use Rattle.image.proofs.Bytes.{no-elements, length-bytes, number-bytes, below-drop}
+use Rattle.image.proofs.Headers.{cut-header, cut-value, with-rule}
 use Rattle.image.proofs.Fields.{length-field, field-goes}
 use Rattle.image.proofs.Memories.{fields-enough, length-first-bytes, length-more, first-and-more}
-use Rattle.image.proofs.Machines.{flags-fit}
+use Rattle.image.proofs.Machines.{length-registers, flags-formed}
 use Rattle.image.proofs.Stages.{endFrom}
 
 -- ---- a field that is cut, or after which something is
 
-cut-in-value : (t₀ t₁ t₂ t₃ : Bool) (r₁ r₂ : Refusal) (v : Verdict) → t₀ ≡ true → t₁ ≡ true → t₂ ≡ true → t₃ ≡ false
-    → ((demand t₀ CutImage then demand t₁ r₁ then demand t₂ r₂ then demand t₃ CutImage) then v) ≡ Refused CutImage
-cut-in-value t₀ t₁ t₂ t₃ r₁ r₂ v p q r s = rw (p, q, r, s)
-
 module _ (f : Field) (value rest : List ℕ) (next : List ℕ → List ℕ → Outcome)
     (long : length value ≡ f .due) (short : f .due < 65536) (follows : f .rule value ≡ Accepted) where
   header-cut : (k : ℕ) → k < 3 → fieldVerdict f (take k (fieldBytes f value ++ rest)) ≡ Refused CutImage
-  unfolding fieldVerdict headerVerdict fieldBytes bytesOf
-  header-cut zero h = refl
-  header-cut (suc zero) h = refl
-  header-cut (suc (suc zero)) h = refl
-  header-cut (suc (suc (suc k))) h = absurd (omega arith)
+  header-cut k h =
+      let part : List ℕ = take k (fieldBytes f value ++ rest) in
+      let l : length part ≡ min k (length (fieldBytes f value ++ rest)) = length-take k (fieldBytes f value ++ rest) in
+      sym (with-rule f part refl (cut-header (f .tag) (f .due) 0 part (omega arith)) refl)
 
   value-cut : (j : ℕ) → j < f .due → fieldVerdict f (take (suc (suc (suc j))) (fieldBytes f value ++ rest)) ≡ Refused CutImage
-  unfolding fieldVerdict headerVerdict fieldBytes bytesOf
+  unfolding fieldBytes bytesOf
   value-cut j h =
-      let part : List ℕ = take j (value ++ rest) in
-      let l : length part ≡ min j (length (value ++ rest)) = length-take j (value ++ rest) in
-      let h₀ : 3 ≤ suc (suc (suc (length part))) = omega arith in
-      let h₁ : suc (suc (suc (length part))) < 3 + f .due = omega arith in
-      cut-in-value _ _ _ _ _ _ _
-      (le-leb _ _ h₀)
-      (eq-eqb (f .tag) (f .tag) refl)
-      (eq-eqb _ _ (number-bytes 2 (length value) (omega arith) ∙ long))
-      (lt-leb _ _ h₁)
+      let part : List ℕ = take (suc (suc (suc j))) (fieldBytes f value ++ rest) in
+      let l : length (take j (value ++ rest)) ≡ min j (length (value ++ rest)) = length-take j (value ++ rest) in
+      sym
+      (with-rule f part refl
+      (cut-value (f .tag) (f .due) 0 part (omega arith) refl (number-bytes 2 (length value) (omega arith) ∙ long) (omega arith))
+      refl)
 
   field-cut : (k : ℕ) → k < length (fieldBytes f value ++ rest) → ((j : ℕ) → j < length rest → next value (take j rest) ≡ refused CutImage)
       → readField f (take k (fieldBytes f value ++ rest)) next ≡ refused CutImage
@@ -119,13 +111,13 @@ version-rule version known =
 pub cut : Cut
 unfolding readOf imageOf fieldBytes
 cut version machine memory room known eight some most memory-below fits k h =
-    let lr : length (wordBytes (machine .regs)) ≡ 32 = length-word-bytes (machine .regs) ∙ ap (λ (n : ℕ). 4 * n) eight in
+    let lr : length (wordBytes (machine .regs)) ≡ 32 = length-registers machine eight in
     let count : List ℕ = bytesOf 4 (length memory) in
     let eM : numberIn count ≡ length memory = number-bytes 4 (length memory) (omega arith) in
     let last : List ℕ → List ℕ → Outcome = endFrom room (version ∷ []) (wordBytes (machine .regs)) (flagNumbers (machine .flags)) in
     field-cut versionField (version ∷ []) _ _ refl (lit< tt) (version-rule version known) k h λ k₁ h₁.
     field-cut registersField (wordBytes (machine .regs)) _ _ lr (lit< tt) refl k₁ h₁ λ k₂ h₂.
-    field-cut flagsField (flagNumbers (machine .flags)) _ _ refl (lit< tt) (ap (λ (t : Bool). demand t BadFlag) (flags-fit (machine .flags))) k₂ h₂ λ k₃ h₃.
+    field-cut flagsField (flagNumbers (machine .flags)) _ _ refl (lit< tt) (ap (λ (t : Bool). demand t BadFlag) (flags-formed (machine .flags))) k₂ h₂ λ k₃ h₃.
     field-cut (countField room) count _ _ (length-bytes 4 (length memory)) (lit< tt) (count-rule memory room some most fits) k₃ h₃ λ k₄ h₄.
     ap (λ (n : ℕ). readMemory (fieldsFor n) n (take k₄ (memoryFields (fieldsFor (length memory)) memory ++ fieldBytes endField [])) last) eM
     ∙ memory-cut (fieldsFor (length memory)) (length memory) memory (fieldBytes endField []) last refl (fields-enough (length memory)) memory-below

@@ -1,15 +1,13 @@
 -- One field: what is written is read back, and what is read was written so.
 use Prim.Native.Nat.{ℕ, suc, _+_, _≤_, _<_}
 use mathlib.Core.Path.{_≡_, refl, sym, ap, ap₂, _∙_}
-use mathlib.Core.Bool.{Bool, true}
 use mathlib.Core.List.{List, [], _∷_, _++_}
 use native.Mathlib.Omega.{arith}
 use lib.Dec.{eqb, leb}
 use lib.ListN.{length, take, drop, getD, length-append, take-append-drop}
 use lib.Seq.{take-at, drop-at, length-take-le}
-use borrow.Author.Tests.{le-leb, eq-eqb, leb-true, eqb-true}
+use borrow.Author.Tests.{leb-true, eqb-true}
 use Rattle.model.specs.declared.Machine.{Machine}
-use Rattle.model.specs.declared.Refusal.{Refusal}
 use Rattle.model.specs.declared.Verdict.{Verdict}
 use Rattle.model.specs.declared.Verdict.the-variants.{Accepted}
 use Rattle.model.specs.Refusals.{demand, _then_}
@@ -18,15 +16,11 @@ use Rattle.image.specs.Bytes.{bytesOf, numberIn, Below}
 use Rattle.image.specs.Format.{Field, fieldBytes}
 use Rattle.image.specs.Reading.{Outcome, loaded, _▷_, headerVerdict, fieldVerdict, readField}
 use Rattle.image.proofs.Bytes.{number-bytes, bytes-number, below-take, below-drop}
-use Rattle.image.proofs.Outcomes.{joined, went-on}
+use Rattle.image.proofs.Outcomes.{verdicts-join, went-on}
+use Rattle.image.proofs.Headers.{whole-field, with-rule}
 
 three-and : (n : ℕ) → 3 + n ≡ suc (suc (suc n))
 three-and n = omega arith
-
--- four tests that hold leave what follows them
-in-order : (t₀ t₁ t₂ t₃ : Bool) (r₀ r₁ r₂ r₃ : Refusal) (u v : Verdict) → t₀ ≡ true → t₁ ≡ true → t₂ ≡ true → t₃ ≡ true → u ≡ v
-    → ((demand t₀ r₀ then demand t₁ r₁ then demand t₂ r₂ then demand t₃ r₃) then u) ≡ v
-in-order t₀ t₁ t₂ t₃ r₀ r₁ r₂ r₃ u v p q r s e = rw (p, q, r, s) e
 
 pub length-field : (f : Field) (value : List ℕ) → length (fieldBytes f value) ≡ 3 + length value
 unfolding fieldBytes bytesOf
@@ -36,18 +30,14 @@ length-field f value = omega arith
 
 module _ (f : Field) (value rest : List ℕ) (long : length value ≡ f .due) (short : f .due < 65536) where
   ruled : (v : Verdict) → f .rule value ≡ v → fieldVerdict f (fieldBytes f value ++ rest) ≡ v
-  unfolding headerVerdict fieldVerdict fieldBytes bytesOf
+  unfolding fieldBytes bytesOf
   ruled v follows =
       let all : List ℕ = fieldBytes f value ++ rest in
       let l : length (value ++ rest) ≡ length value + length rest = length-append value rest in
-      let h₀ : 3 ≤ length all = omega arith in
-      let h₁ : 3 + f .due ≤ length all = omega arith in
-      in-order _ _ _ _ _ _ _ _ _ _
-      (le-leb _ _ h₀)
-      (eq-eqb (f .tag) (f .tag) refl)
-      (eq-eqb _ _ (number-bytes 2 (length value) (omega arith) ∙ long))
-      (le-leb _ _ h₁)
-      (ap (f .rule) (take-at value rest (f .due) long) ∙ follows)
+      sym
+      (with-rule f all refl
+      (whole-field (f .tag) (f .due) 0 all (omega arith) refl (number-bytes 2 (length value) (omega arith) ∙ long) (omega arith))
+      (sym (ap (f .rule) (take-at value rest (f .due) long) ∙ follows)))
 
   pub field-goes : (bytes : List ℕ) (next : List ℕ → List ℕ → Outcome) (v w : Verdict) (o : Outcome)
       → bytes ≡ fieldBytes f value ++ rest → f .rule value ≡ v → next value rest ≡ (w ▷ o) → readField f bytes next ≡ ((v then w) ▷ o)
@@ -56,11 +46,11 @@ module _ (f : Field) (value rest : List ℕ) (long : length value ≡ f .due) (s
       let left : drop (3 + f .due) (fieldBytes f value ++ rest) ≡ rest = ap (λ (n : ℕ). drop n (fieldBytes f value ++ rest)) (three-and (f .due)) ∙ drop-at value rest (f .due) long in
       ap (λ (b : List ℕ). readField f b next) is
       ∙ ap (λ (u : Verdict). u ▷ next (take (f .due) (value ++ rest)) (drop (3 + f .due) (fieldBytes f value ++ rest))) (ruled v follows)
-      ∙ joined v w o (ap₂ next (take-at value rest (f .due) long) left ∙ e)
+      ∙ verdicts-join v w o (ap₂ next (take-at value rest (f .due) long) left ∙ e)
 
 -- ---- a field that was taken is the field of its value, and the bytes after it
 
-pub record Taken (f : Field) (bytes : List ℕ) (next : List ℕ → List ℕ → Outcome) (o : Outcome) : Type 0 where
+pub record FieldTaken (f : Field) (bytes : List ℕ) (next : List ℕ → List ℕ → Outcome) (o : Outcome) : Type 0 where
   pub value : List ℕ
   pub rest : List ℕ
   pub is : bytes ≡ fieldBytes f value ++ rest
@@ -94,7 +84,7 @@ module _ (f : Field) where
       ∙ ap (λ (y : List ℕ). f .tag ∷ ((y ++ take due rest) ++ drop due rest)) (sym e)
 
   pub field-taken : {version : ℕ} {machine : Machine} {memory : List ℕ} (next : List ℕ → List ℕ → Outcome) (bytes : List ℕ) → Below 256 bytes
-      → readField f bytes next ≡ loaded version machine memory → Taken f bytes next (loaded version machine memory)
+      → readField f bytes next ≡ loaded version machine memory → FieldTaken f bytes next (loaded version machine memory)
   unfolding readField
   field-taken next bytes h e =
       let w = went-on (fieldVerdict f bytes) _ e in
@@ -103,7 +93,7 @@ module _ (f : Field) where
       go : {o : Outcome} (bytes : List ℕ) → Below 256 bytes
           → (3 ≤ length bytes) × (getD bytes 0 0 ≡ f .tag) × (numberIn (take 2 (drop 1 bytes)) ≡ f .due) × (3 + f .due ≤ length bytes)
           × (f .rule (take (f .due) (drop 3 bytes)) ≡ Accepted)
-          → next (take (f .due) (drop 3 bytes)) (drop (3 + f .due) bytes) ≡ o → Taken f bytes next o
+          → next (take (f .due) (drop 3 bytes)) (drop (3 + f .due) bytes) ≡ o → FieldTaken f bytes next o
       go [] h k e = absurd (omega (arith, k .0))
       go (t ∷ []) h k e = absurd (omega (arith, k .0))
       go (t ∷ a ∷ []) h k e = absurd (omega (arith, k .0))

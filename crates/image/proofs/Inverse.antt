@@ -1,5 +1,5 @@
 -- What is written is read back, only what the writer can produce is read, and how long an image is.
-use Prim.Native.Nat.{ℕ, _+_, _*_}
+use Prim.Native.Nat.{ℕ, _+_}
 use mathlib.Core.Path.{_≡_, refl, sym, ap, ap₂, _∙_}
 use mathlib.Core.Bool.{Bool, true}
 use mathlib.Core.List.{List, [], _∷_, _++_, append-assoc, append-nil}
@@ -11,8 +11,8 @@ use Rattle.model.specs.declared.Machine.{Machine}
 use Rattle.model.specs.declared.Refusal.the-variants.{WrongVersion, BadFlag, BadWordCount, ShortMemory, TrailingBytes}
 use Rattle.model.specs.declared.Verdict.{Verdict}
 use Rattle.model.specs.declared.Verdict.the-variants.{Accepted}
-use Rattle.model.specs.Refusals.{demand, _then_, mostWords}
 use Rattle.model.specs.Packed.{flagNumbers}
+use Rattle.model.specs.Refusals.{demand, _then_, mostWords}
 use Rattle.model.proofs.Verdicts.{then-assoc, demanded}
 use Rattle.image.specs.Bytes.{bytesOf, numberIn, wordBytes, wordsIn, Below}
 use Rattle.image.specs.Format.{fieldBytes, isVersion, countFormed, versionField, registersField, flagsField, countField, endField, fieldsFor, memoryFields, imageOf}
@@ -22,7 +22,7 @@ use Rattle.image.proofs.Bytes.{no-elements, length-bytes, number-bytes,
 use Rattle.image.proofs.Outcomes.{went-on}
 use Rattle.image.proofs.Fields.{length-field, field-goes, field-taken}
 use Rattle.image.proofs.Memories.{fields-enough, length-memory, memory-goes, memory-taken}
-use Rattle.image.proofs.Machines.{flags-fit, machine-back, flags-back}
+use Rattle.image.proofs.Machines.{length-registers, flags-formed, machine-back, flags-back}
 use Rattle.image.proofs.Stages.{endFrom, memoryFrom, countFrom, flagsFrom, registersFrom, in-stages}
 
 -- ---- what was written is read, and what is refused of it
@@ -34,7 +34,7 @@ image-read version machine memory rest room eight registers-below few memory-bel
     let onCount : Verdict = demand (countFormed (length memory)) BadWordCount in
     let onRoom : Verdict = demand (leb (length memory) room) ShortMemory in
     let onRest : Verdict = demand (eqb (length rest) 0) TrailingBytes in
-    let lr : length (wordBytes (machine .regs)) ≡ 32 = length-word-bytes (machine .regs) ∙ ap (λ (n : ℕ). 4 * n) eight in
+    let lr : length (wordBytes (machine .regs)) ≡ 32 = length-registers machine eight in
     let eV : version + 0 ≡ version = omega arith in
     let M : ℕ = numberIn (bytesOf 4 (length memory)) in
     let eM : M ≡ length memory = number-bytes 4 (length memory) few in
@@ -42,7 +42,7 @@ image-read version machine memory rest room eight registers-below few memory-bel
     let w : Verdict = onCount then onRoom then onRest in
     field-goes versionField (version ∷ []) _ refl (lit< tt) _ _ onVersion w o (simp append-assoc) (ap (λ (v : ℕ). demand (isVersion v) WrongVersion) eV)
     (field-goes registersField (wordBytes (machine .regs)) _ lr (lit< tt) _ _ Accepted w o refl refl
-    (field-goes flagsField (flagNumbers (machine .flags)) _ refl (lit< tt) _ _ Accepted w o refl (ap (λ (t : Bool). demand t BadFlag) (flags-fit (machine .flags)))
+    (field-goes flagsField (flagNumbers (machine .flags)) _ refl (lit< tt) _ _ Accepted w o refl (ap (λ (t : Bool). demand t BadFlag) (flags-formed (machine .flags)))
     (field-goes (countField room) (bytesOf 4 (length memory)) _ (length-bytes 4 (length memory)) (lit< tt) _ _ (onCount then onRoom) onRest o refl
     (ap (λ (n : ℕ). demand (countFormed n) BadWordCount then demand (leb n room) ShortMemory) eM)
     (memory-goes (fieldsFor M) M _ memory (fieldBytes endField [] ++ rest) _ _ (ap (λ (n : ℕ). memoryFields (fieldsFor n) memory ++ (fieldBytes endField [] ++ rest)) (sym eM)) (sym eM) (fields-enough M) memory-below

@@ -1,5 +1,5 @@
 -- What is loaded has the version that the writer writes, and is a memory that a run takes.
-use Prim.Native.Nat.{ℕ, zero, suc, _+_, _*_, _-_, _≤_, min}
+use Prim.Native.Nat.{ℕ, zero, suc, _+_, _-_, _*_, _≤_, min}
 use mathlib.Core.Path.{_≡_, refl, sym, ap, _∙_}
 use mathlib.Core.Bool.{true, and-eq-true-iff}
 use mathlib.Core.List.{List, [], _++_}
@@ -11,8 +11,8 @@ use borrow.Author.Tests.{leb-true, eqb-true}
 use Rattle.model.specs.declared.Machine.{Machine}
 use Rattle.model.specs.declared.Verdict.the-variants.{Accepted}
 use Rattle.model.specs.declared.Refusal.the-variants.{WrongVersion, BadWordCount, TrailingBytes}
-use Rattle.model.specs.Refusals.{mostWords, demand}
 use Rattle.model.specs.Words.{overlay}
+use Rattle.model.specs.Refusals.{mostWords, demand}
 use Rattle.model.proofs.Verdicts.{demanded, both}
 use Rattle.image.specs.declared.ReadAnswer.{ReadAnswer}
 use Rattle.image.specs.declared.ReadResult.{ReadResult}
@@ -22,9 +22,9 @@ use Rattle.image.specs.Reading.{Outcome, loaded, refused, fieldVerdict, 
 use Rattle.image.specs.Calls.{readResult, outcomeWords, readReturned, readWords, Reads}
 use Rattle.image.specs.Theorems.{LoadedFits}
 use Rattle.image.proofs.Bytes.{length-words}
+use Rattle.image.proofs.Outcomes.{went-on}
 use Rattle.image.proofs.Fields.{facts}
 use Rattle.image.proofs.Memories.{fields-enough}
-use Rattle.image.proofs.Outcomes.{went-on}
 
 module _ {version : ℕ} {machine : Machine} {words : List ℕ} where
   -- past one field, and past the fields of so many words

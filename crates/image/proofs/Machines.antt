@@ -1,28 +1,31 @@
 -- A machine and the bytes of its registers and flags.
-use Prim.Native.Nat.{ℕ, _^_}
+use Prim.Native.Nat.{ℕ, _*_, _^_}
 use mathlib.Core.Path.{_≡_, refl, sym, ap, _∙_}
-use mathlib.Core.Bool.{Bool, true, false, _&&_, and-eq-true-iff}
+use mathlib.Core.Bool.{Bool, true, _&&_, and-eq-true-iff}
 use mathlib.Core.List.{List, [], _∷_}
 use native.Mathlib.Omega.{arith}
 use lib.Dec.{leb}
 use lib.ListN.{length}
 use borrow.Author.Tests.{leb-true}
 use Rattle.arithmetic.specs.Words.{asNumber}
-use Rattle.arithmetic.proofs.Bits.{digit-bit, bit-digit}
+use Rattle.arithmetic.proofs.Bits.{one, digit-bit, bit-digit}
 use Rattle.model.specs.declared.Flags.{Flags}
 use Rattle.model.specs.declared.Machine.{Machine}
 use Rattle.model.specs.Packed.{flagNumbers}
 use Rattle.image.specs.Bytes.{wordBytes, wordsIn, Below}
 use Rattle.image.specs.Format.{flagsFormed}
 use Rattle.image.specs.Reading.{machineFrom}
-use Rattle.image.proofs.Bytes.{words-of-bytes}
+use Rattle.image.proofs.Bytes.{length-word-bytes, words-of-bytes}
 
-flag-fits : (t : Bool) → leb (asNumber t) 1 ≡ true
-flag-fits true = refl
-flag-fits false = refl
+-- eight registers are 32 bytes
+pub length-registers : (m : Machine) → length (m .regs) ≡ 8 → length (wordBytes (m .regs)) ≡ 32
+length-registers m eight = length-word-bytes (m .regs) ∙ ap (λ (n : ℕ). 4 * n) eight
 
-pub flags-fit : (f : Flags) → flagsFormed (flagNumbers f) ≡ true
-flags-fit f = rw (flag-fits (f .carry), flag-fits (f .overflow), flag-fits (f .negative), flag-fits (f .zero))
+flag-formed : (t : Bool) → leb (asNumber t) 1 ≡ true
+flag-formed = one _ refl refl
+
+pub flags-formed : (f : Flags) → flagsFormed (flagNumbers f) ≡ true
+flags-formed f = rw (flag-formed (f .carry), flag-formed (f .overflow), flag-formed (f .negative), flag-formed (f .zero))
 
 pub machine-back : (m : Machine) → length (m .regs) ≡ 8 → Below (2 ^ 32) (m .regs) → machineFrom (wordBytes (m .regs)) (flagNumbers (m .flags)) ≡ m
 machine-back m l h =

@@ -1,5 +1,5 @@
 -- The fields of words: what is written is read back, and what is read was written so.
-use Prim.Native.Nat.{ℕ, zero, suc, _+_, _*_, _-_, _^_, _≤_, _<_, min}
+use Prim.Native.Nat.{ℕ, zero, suc, _+_, _-_, _*_, _^_, _≤_, _<_, min}
 use mathlib.Core.Path.{_≡_, refl, sym, ap, ap₂, _∙_}
 use mathlib.Core.List.{List, [], _++_, append-assoc, append-nil}
 use native.Mathlib.Decide.{decLe}
@@ -21,7 +21,7 @@ fields-enough words = omega arith
 
 pub last-field : LastField
 unfolding fieldsFor
-last-field words h = (omega arith, omega arith)
+last-field words h = (omega arith, fields-enough words)
 
 -- a field takes as many words as it can
 pub one-field-less : (words count : ℕ) → 0 < words → count ≡ min wordsPerField words → fieldsFor words ≡ suc (fieldsFor (words - count))
@@ -72,11 +72,15 @@ next-field memory from count h e =
     ap (λ (x : ℕ). memoryFields x (drop from memory)) one-less
     ∙ ap₂ (λ (x y : List ℕ). fieldBytes (wordsField count) (wordBytes x) ++ memoryFields (fieldsFor n′) y) (parts .0) (parts .1 ∙ drop-drop count from memory)
 
+-- as many words as are asked for, where they are there
+pub length-part : (memory : List ℕ) (from count : ℕ) → from + count ≤ length memory → length (take count (drop from memory)) ≡ count
+length-part memory from count h = length-take-le count (drop from memory) (omega (arith, length-drop from memory))
+
 pub length-word-field : (memory : List ℕ) (from count : ℕ) → from + count ≤ length memory
     → length (fieldBytes (wordsField count) (wordBytes (take count (drop from memory)))) ≡ 3 + 4 * count
 length-word-field memory from count h =
     let words : List ℕ = take count (drop from memory) in
-    let l : length words ≡ count = length-take-le count (drop from memory) (omega (arith, length-drop from memory)) in
+    let l : length words ≡ count = length-part memory from count h in
     omega (arith, length-field (wordsField count) (wordBytes words), length-word-bytes words)
 
 -- the words of a first field, and what is left

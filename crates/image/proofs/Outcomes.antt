@@ -14,6 +14,6 @@ went-on Accepted o e = (refl, e)
 went-on (Refused why) o e = (cc, cc)
 
 -- what follows a verdict is a verdict and an outcome: the two verdicts are one
-pub joined : {o : Outcome} (v w : Verdict) (o′ : Outcome) → o ≡ (w ▷ o′) → (v ▷ o) ≡ ((v then w) ▷ o′)
-joined Accepted w o′ e = e
-joined (Refused why) w o′ e = refl
+pub verdicts-join : {o : Outcome} (v w : Verdict) (o′ : Outcome) → o ≡ (w ▷ o′) → (v ▷ o) ≡ ((v then w) ▷ o′)
+verdicts-join Accepted w o′ e = e
+verdicts-join (Refused why) w o′ e = refl

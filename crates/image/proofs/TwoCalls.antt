@@ -10,8 +10,8 @@ use borrow.Author.Tests.{le-leb}
 use Rattle.model.specs.declared.Refusal.the-variants.{ShortOutput}
 use Rattle.model.specs.declared.Verdict.{Verdict}
 use Rattle.model.specs.declared.Verdict.the-variants.{Accepted, Refused}
-use Rattle.model.specs.Refusals.{leftBy, mostWords, demand, memoryFits}
 use Rattle.model.specs.Words.{overlay}
+use Rattle.model.specs.Refusals.{leftBy, mostWords, demand, memoryFits}
 use Rattle.model.proofs.Verdicts.{both, memory-bounds, memory-accepted}
 use Rattle.image.specs.declared.WriteAnswer.{WriteAnswer}
 use Rattle.image.specs.Format.{imageOf}

@@ -9,10 +9,10 @@ use Rattle.model.specs.declared.Machine.{Machine}
 use Rattle.model.specs.declared.Refusal.the-variants.{ShortOutput}
 use Rattle.model.specs.declared.Verdict.{Verdict}
 use Rattle.model.specs.declared.Verdict.the-variants.{Accepted, Refused}
-use Rattle.model.specs.Refusals.{refusalNumber, verdictNumber, leftBy, demand, _then_, memoryFits}
 use Rattle.model.specs.Words.{overlay}
 use Rattle.model.specs.Interpreter.{machineWith}
 use Rattle.model.specs.Packed.{noFlags}
+use Rattle.model.specs.Refusals.{refusalNumber, verdictNumber, leftBy, demand, _then_, memoryFits}
 use Rattle.image.specs.declared.WriteAnswer.{WriteAnswer}
 use Rattle.image.specs.declared.ReadAnswer.{ReadAnswer}
 use Rattle.image.specs.declared.ReadResult.{ReadResult}

@@ -8,8 +8,8 @@ use lib.Dec.{eqb, leb}
 use lib.ListN.{length, take}
 use Rattle.model.specs.declared.Machine.{Machine}
 use Rattle.model.specs.declared.Refusal.the-variants.{CutImage, WrongVersion, BadWordCount, ShortMemory, TrailingBytes}
-use Rattle.model.specs.Refusals.{demand, _then_, mostWords}
 use Rattle.model.specs.Words.{overlay}
+use Rattle.model.specs.Refusals.{demand, _then_, mostWords}
 use Rattle.image.specs.declared.WriteAnswer.{WriteAnswer}
 use Rattle.image.specs.declared.ReadAnswer.{ReadAnswer}
 use Rattle.image.specs.declared.ReadResult.{ReadResult}

@@ -44,7 +44,7 @@ pub fn write_part(memory: &[u32], words: usize, bytes: &mut [u8], room: usize) -
     image_writer::write(&memory[0..words], machine(), &mut bytes[0..room])
 }
 
-// Reads the first bytes of an image to the first words of a memory.
+// Reads the first bytes of an image to the first words of a memory. 99, which no refusal has, where there are not so many.
 pub fn read_part(bytes: &[u8], size: usize, memory: &mut [u32], room: usize) -> u64 {
     if bytes.len() < size {
         return 99;

@@ -1,4 +1,4 @@
--- What the reader answers, from what its two by-passes did.
+-- What the reader answers, from what its two passes did.
 use Prim.Native.Nat.{ℕ, _+_, _≤_}
 use mathlib.Core.Path.{_≡_, refl, sym, ap, _∙_}
 use mathlib.Core.Bool.{and-eq-true-iff}
@@ -10,29 +10,30 @@ use lib.Seq.{sets, drop-drop}
 use borrow.Author.Tests.{leb-true}
 use Rattle.model.specs.declared.Machine.{Machine}
 use Rattle.model.specs.declared.Refusal.{Refusal}
-use Rattle.model.specs.declared.Refusal.the-variants.{CutImage, BadWordCount, ShortMemory, TrailingBytes}
+use Rattle.model.specs.declared.Refusal.the-variants.{BadWordCount, ShortMemory, TrailingBytes}
 use Rattle.model.specs.declared.Verdict.{Verdict}
 use Rattle.model.specs.declared.Verdict.the-variants.{Accepted, Refused}
 use Rattle.model.specs.Refusals.{demand, _then_, mostWords}
-use Rattle.model.proofs.Verdicts.{demanded, both}
 use Rattle.model.proofs.Stores.{overlaid}
+use Rattle.model.proofs.Verdicts.{demanded, both}
 use Rattle.image.specs.declared.ReadAnswer.{ReadAnswer}
 use Rattle.image.specs.Format.{versionField, registersField, flagsField, countField, endField, countFormed, fieldsFor, spanOf}
-use Rattle.image.specs.Reading.{Outcome, loaded, refused, _▷_, headerVerdict, fieldVerdict, readOf}
+use Rattle.image.specs.Reading.{Outcome, loaded, refused, _▷_, fieldVerdict, readOf}
 use Rattle.image.specs.Calls.{clearedMachine, readResult, outcomeWords, outcomeNumber, outcomeCount, readNumber, readCount, readReturned, readWords, Reads}
+use Rattle.image.proofs.Fields.{facts}
 use Rattle.image.proofs.Memories.{fields-enough}
 use Rattle.image_reader.specs.Passes.{imageCount, imageMachine, imageMemory, headVerdict, memoryVerdict, endVerdict, tailVerdict, imageVerdict}
 use Rattle.image_reader.proofs.Passes.{imageVersion, imageWords, by-passes, length-image-memory}
 
 -- what an accepted head shows of the word count
 pub head-accepted : (bytes : List ℕ) (room : ℕ) → headVerdict bytes room ≡ Accepted → (imageCount bytes ≤ mostWords) × (imageCount bytes ≤ room)
-unfolding headVerdict fieldVerdict
+unfolding headVerdict
 head-accepted bytes room e =
     let M : ℕ = imageCount bytes in
     let e₁ = both (fieldVerdict versionField bytes) _ e .1 in
     let e₂ = both (fieldVerdict registersField (drop 4 bytes)) _ e₁ .1 in
     let e₃ = both (fieldVerdict flagsField (drop 39 bytes)) _ e₂ .1 in
-    let e₄ = both (headerVerdict 4 4 (drop 46 bytes)) (countField room .rule _) e₃ .1 in
+    let e₄ = facts (countField room) (drop 46 bytes) e₃ .4 in
     let e₅ : (demand (countFormed M) BadWordCount then demand (leb M room) ShortMemory) ≡ Accepted = rw drop-drop at e₄ in
     let e₆ = both (demand (countFormed M) BadWordCount) (demand (leb M room) ShortMemory) e₅ in
     (leb-true _ _ (and-eq-true-iff (leb 1 M) (leb M mostWords) .0 (demanded _ BadWordCount (e₆ .0)) .1), leb-true _ _ (demanded _ ShortMemory (e₆ .1)))
@@ -48,13 +49,11 @@ accepted-head bytes room words e p q =
 
 -- an accepted end field lies within the bytes
 end-accepted : (at : ℕ) (bytes : List ℕ) → endVerdict (drop at bytes) ≡ Accepted → at ≤ length bytes
-unfolding endVerdict fieldVerdict headerVerdict
+unfolding endVerdict
 end-accepted at bytes e =
     let b : List ℕ = drop at bytes in
     let f = both (fieldVerdict endField b) (demand (eqb (length (drop 3 b)) 0) TrailingBytes) e .0 in
-    let g = both (headerVerdict 0xFF 0 b) Accepted f .0 in
-    let k : 3 ≤ length b = leb-true _ _ (demanded (leb 3 (length b)) CutImage (both (demand (leb 3 (length b)) CutImage) _ g .0)) in
-    omega (arith, length-drop at bytes)
+    omega (arith, facts endField b f .0, length-drop at bytes)
 
 -- what an accepted image shows for the second pass
 pub image-accepted : (bytes : List ℕ) (room : ℕ) → imageVerdict bytes room ≡ Accepted → (53 + spanOf (imageCount bytes) ≤ length bytes) × (imageCount bytes ≤ room)

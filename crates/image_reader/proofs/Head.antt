@@ -1,23 +1,27 @@
 -- The verdicts on the fields of the head, by what the code tests.
-use Prim.Native.Nat.{ℕ}
+use Prim.Native.Nat.{ℕ, _+_}
 use mathlib.Core.Path.{_≡_, refl, sym, ap, ap₂, _∙_}
 use mathlib.Core.Bool.{Bool}
 use mathlib.Core.List.{List}
 use lib.Dec.{eqb, leb}
 use lib.ListN.{take, drop, getD}
-use lib.Seq.{drop-drop}
+use lib.Seq.{getD-drop, drop-drop}
 use Rattle.model.specs.declared.Refusal.the-variants.{WrongVersion, BadFlag, BadWordCount, ShortMemory}
 use Rattle.model.specs.declared.Verdict.{Verdict}
 use Rattle.model.specs.Refusals.{demand, _then_}
 use Rattle.image.specs.Bytes.{numberIn}
 use Rattle.image.specs.Format.{versionField, registersField, flagsField, countField, isVersion, flagsFormed, countFormed}
 use Rattle.image.specs.Reading.{headerVerdict, fieldVerdict}
-use Rattle.image.proofs.Headers.{without-rule}
 use Rattle.image.proofs.Places.{one-byte, flags-take}
+use Rattle.image.proofs.Headers.{without-rule}
 use Rattle.image_reader.specs.Passes.{imageCount, headVerdict}
 
 pub version-checked : (bytes : List ℕ) (v : ℕ) → v ≡ getD bytes 3 0 → demand (eqb v 1) WrongVersion ≡ versionField .rule (take 1 (drop 3 bytes))
 version-checked bytes v e = ap (λ (n : ℕ). demand (isVersion n) WrongVersion) (e ∙ sym (one-byte bytes 3))
+
+-- a flag's byte, by its place in the image and in its field
+pub flag-at : (bytes : List ℕ) (i : ℕ) {x : ℕ} → x ≡ getD bytes (42 + i) 0 → x ≡ getD (drop 42 bytes) i 0
+flag-at bytes i e = e ∙ sym (getD-drop 42 bytes i 0)
 
 pub flags-checked : (bytes : List ℕ) (t : Bool) → t ≡ flagsFormed (drop 42 bytes) → demand t BadFlag ≡ flagsField .rule (take 4 (drop 3 (drop 39 bytes)))
 flags-checked bytes t e =

@@ -1,5 +1,5 @@
 -- The two passes are `readOf`: a verdict on the whole, then what lies at each place.
-use Prim.Native.Nat.{ℕ, zero, suc, _+_, _*_, _-_, _≤_, min}
+use Prim.Native.Nat.{ℕ, zero, suc, _+_, _-_, _*_, _≤_, min}
 use mathlib.Core.Path.{_≡_, refl, sym, ap, ap₂, _∙_}
 use mathlib.Core.List.{List, [], _++_}
 use native.Mathlib.Omega.{arith}
@@ -15,9 +15,9 @@ use Rattle.image.specs.Bytes.{numberIn, wordsIn}
 use Rattle.image.specs.Format.{Field, versionField, registersField, flagsField, countField, wordsField, endField, wordsPerField, fieldsFor, spanOf}
 use Rattle.image.specs.Reading.{Outcome, loaded, _▷_, fieldVerdict, readField, readMemory, readOf, machineFrom}
 use Rattle.image.proofs.Bytes.{length-words}
-use Rattle.image.proofs.Outcomes.{joined}
-use Rattle.image.proofs.Memories.{fields-enough}
 use Rattle.image.proofs.Places.{words-take, machine-take}
+use Rattle.image.proofs.Outcomes.{verdicts-join}
+use Rattle.image.proofs.Memories.{fields-enough}
 use Rattle.image.proofs.Stages.{endFrom, memoryFrom, countFrom, flagsFrom, registersFrom, in-stages}
 use Rattle.image_reader.specs.Passes.{imageCount, imageMachine, imageMemory, headVerdict, memoryVerdict, endVerdict, tailVerdict, imageVerdict}
 
@@ -34,7 +34,7 @@ read-at : (f : Field) (at : ℕ) (bytes : List ℕ) (next : List ℕ → List �
     → readField f (drop at bytes) next ≡ ((fieldVerdict f (drop at bytes) then w) ▷ o)
 unfolding readField
 read-at f at bytes next w o e =
-    joined (fieldVerdict f (drop at bytes)) w o
+    verdicts-join (fieldVerdict f (drop at bytes)) w o
     (ap₂ (λ (x y : List ℕ). next (take (f .due) x) y) (drop-drop 3 at bytes) (drop-drop (3 + f .due) at bytes) ∙ e)
 
 -- ---- the memory and the end
@@ -48,7 +48,7 @@ memory-passes (suc n) words bytes next h =
     let left : ℕ = words - wordsPerField in
     let rest : List ℕ = drop (3 + 4 * k) bytes in
     let sum : 3 + 4 * k + (4 * left + 3 * n) ≡ 4 * words + 3 * suc n = omega arith in
-    joined (fieldVerdict (wordsField k) bytes) (memoryVerdict n left rest) _
+    verdicts-join (fieldVerdict (wordsField k) bytes) (memoryVerdict n left rest) _
     (memory-passes n left rest (λ (more end : List ℕ). next (wordsIn k (take (4 * k) (drop 3 bytes)) ++ more) end) (omega arith)
     ∙ ap₂ (λ (x y : List ℕ). memoryVerdict n left rest ▷ next (x ++ imageMemory n left rest) y)
     (words-take k (drop 3 bytes))
@@ -67,7 +67,7 @@ end-passes : (room : ℕ) (version registers flags memory bytes : List ℕ)
     → endFrom room version registers flags memory bytes ≡ (endVerdict bytes ▷ loaded (numberIn version) (machineFrom registers flags) memory)
 unfolding endVerdict readField
 end-passes room version registers flags memory bytes =
-    joined (fieldVerdict endField bytes) (demand (eqb (length (drop 3 bytes)) 0) TrailingBytes) (loaded (numberIn version) (machineFrom registers flags) memory) refl
+    verdicts-join (fieldVerdict endField bytes) (demand (eqb (length (drop 3 bytes)) 0) TrailingBytes) (loaded (numberIn version) (machineFrom registers flags) memory) refl
 
 -- ---- the whole
 
@@ -96,7 +96,7 @@ module _ (bytes : List ℕ) (room : ℕ) where
       let M : ℕ = imageCount bytes in
       let e : Verdict = endVerdict (drop (53 + spanOf M) bytes) in
       memory-passes (fieldsFor M) M (drop 53 bytes) (endFrom room version registers flags) (fields-enough M)
-      ∙ joined (memoryVerdict (fieldsFor M) M (drop 53 bytes)) e all
+      ∙ verdicts-join (memoryVerdict (fieldsFor M) M (drop 53 bytes)) e all
       (end-passes room version registers flags (imageWords bytes) (drop (spanOf M) (drop 53 bytes))
       ∙ ap₂ (λ (x : List ℕ) (m : Machine). endVerdict x ▷ loaded (imageVersion bytes) m (imageWords bytes)) (drop-drop (spanOf M) 53 bytes) (machine-take (drop 42 bytes) (drop 7 bytes)))
 

@@ -1,6 +1,6 @@
 -- Where things lie in an image, as the reader's two passes work it out; `proofs/Passes` shows that this is `readOf`. Document 01,
 -- "Image".
-use Prim.Native.Nat.{ℕ, zero, suc, _+_, _*_, _-_, _<_, min}
+use Prim.Native.Nat.{ℕ, zero, suc, _+_, _-_, _*_, _<_, min}
 use mathlib.Core.Path.{_≡_}
 use mathlib.Core.List.{List, [], _++_}
 use lib.Dec.{eqb}

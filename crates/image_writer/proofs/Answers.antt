@@ -12,8 +12,8 @@ use Rattle.model.specs.declared.Refusal.{Refusal}
 use Rattle.model.specs.declared.Refusal.the-variants.{ShortOutput}
 use Rattle.model.specs.declared.Verdict.{Verdict}
 use Rattle.model.specs.declared.Verdict.the-variants.{Accepted, Refused}
-use Rattle.model.specs.Refusals.{verdictNumber, leftBy, demand, _then_, memoryFits}
 use Rattle.model.specs.Words.{overlay}
+use Rattle.model.specs.Refusals.{verdictNumber, leftBy, demand, _then_, memoryFits}
 use Rattle.model.proofs.Stores.{overlaid}
 use Rattle.image.specs.declared.WriteAnswer.{WriteAnswer}
 use Rattle.image.specs.Format.{imageOf}

@@ -11,8 +11,8 @@ ghost use mathlib.Core.Path.{_≡_};
 ghost use Prim.Native.Nat.{_+_, _*_, _≤_};
 ghost use lib.ListN.{length, take, drop};
 ghost use lib.Seq.{sets};
-ghost use Rattle.model.specs.Refusals.{mostWords};
 ghost use Rattle.model.specs.Packed.{flagNumbers};
+ghost use Rattle.model.specs.Refusals.{mostWords};
 ghost use Rattle.image.specs.Bytes.{bytesOf, wordBytes};
 ghost use Rattle.image.specs.Format.{fieldBytes, registersField, flagsField, countField, wordsField, wordsPerField, fieldsFor, spanOf, memoryFields, imageOf};
 

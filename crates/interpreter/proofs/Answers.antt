@@ -1,7 +1,8 @@
 -- The public calls: refused, carried out, undone.
-use Prim.Native.Nat.{ℕ}
+use Prim.Native.Nat.{ℕ, _≤_}
 use mathlib.Core.Path.{_≡_, refl, sym, ap, _∙_}
 use mathlib.Core.List.{List, []}
+use native.Mathlib.Omega.{arith}
 use lib.ListN.{length}
 use Rattle.model.specs.declared.Machine.{Machine}
 use Rattle.model.specs.declared.Ending.{Ending}
@@ -9,10 +10,12 @@ use Rattle.model.specs.declared.Ending.the-variants.{Finished, Outside}
 use Rattle.model.specs.declared.Refusal.{Refusal}
 use Rattle.model.specs.declared.Verdict.{Verdict}
 use Rattle.model.specs.declared.Verdict.the-variants.{Accepted, Refused}
-use Rattle.model.specs.Refusals.{verdictNumber, leftBy, runVerdict, fileVerdict}
-use Rattle.model.specs.Interpreter.{Run, begin, interpret}
 use Rattle.model.specs.Words.{overlay}
+use Rattle.model.specs.Interpreter.{Run, begin, interpret}
 use Rattle.model.specs.Journal.{journalPairs, journalWords}
+use Rattle.model.specs.Refusals.{verdictNumber, leftBy, runVerdict, fileVerdict}
+use Rattle.model.proofs.Stores.{overlaid}
+use Rattle.model.proofs.Runs.{pairs-le, words-length}
 use Rattle.model.proofs.Verdicts.{room-for-all}
 use Rattle.journal.specs.Undo.{undone}
 use Rattle.journal.proofs.Journals.{back}
@@ -26,6 +29,14 @@ use Rattle.interpreter.specs.Calls.{runAnswer, runResult, runNumber, run
 use Rattle.interpreter.specs.Calls.{fileEnd, fileResult, memoryEnd, fileNumber, fileReturned, fileWords, filePlaces, FileRuns}
 
 -- ---- the run
+
+pub finished-as : (e : Ending) → runAnswer e ≡ RunAnswer.Finished → e ≡ Finished
+finished-as Finished q = refl
+finished-as Outside q = cc
+
+pub outside-as : (e : Ending) → runAnswer e ≡ RunAnswer.Outside → e ≡ Outside
+outside-as Finished q = cc
+outside-as Outside q = refl
 
 module _ (memory waits : List ℕ) (start : Machine) (count : ℕ) where
   abbrev ran : Run
@@ -112,7 +123,11 @@ module _ {memory journal : List ℕ} {start : Machine} {count : ℕ} {v : Verdic
     ended f = sym (ap (λ (d : Ended). d .ending) (h .result)) ∙ f
 
     places : journal′ ≡ overlay (journalWords (journalPairs [] count (begin start memory 0))) journal
-    places = h .pairs (room-for-all memory journal count p e)
+    places =
+        let ps = journalPairs [] count (begin start memory 0) in
+        let fits : length (journalWords ps) ≤ length journal =
+        omega (arith, words-length ps, pairs-le [] count (begin start memory 0), room-for-all memory journal count p e) in
+        h .places ∙ overlaid journal (journalWords ps) fits
 
     pub file-finished : d .ending ≡ Finished
         → FileRuns memory journal start count memory′ journal′

@@ -10,8 +10,8 @@ use borrow.Author.Tests.{lt-ltb}
 use Rattle.arithmetic.specs.Words.{asNumber}
 use Rattle.model.specs.declared.Operand.{Operand}
 use Rattle.model.specs.Operands.{inMemory}
-use Rattle.model.specs.Interpreter.{costOf}
 use Rattle.model.specs.Waits.{waitAt, nextPosition, waitSum, positionAfter}
+use Rattle.model.specs.Interpreter.{costOf}
 use Rattle.model.proofs.Waits.{sum-add, position-add, no-wait, next-stays, no-waits, position-stays}
 use Rattle.interpreter.specs.declared.clocks.Spent.{Spent}
 use Rattle.interpreter.specs.Clocks.{moreOf, walkedOf, spentOf}

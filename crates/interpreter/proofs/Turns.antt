@@ -1,95 +1,46 @@
 -- The shared loop: where it stands after i instructions, one turn more, and its two ends.
-use Prim.Native.Nat.{ℕ, _+_, _*_, _≤_, _<_, _^_}
+use Prim.Native.Nat.{ℕ, _+_, _^_, _≤_, _<_}
 use mathlib.Core.Path.{_≡_, refl, sym, ap, subst, _∙_}
-use mathlib.Core.Bool.{Bool, true, false, cond, _&&_}
+use mathlib.Core.Bool.{Bool, true, false, cond}
 use mathlib.Core.List.{List, [], _∷_, _++_, append-nil}
 use native.Mathlib.Nat.{add-assoc}
 use native.Mathlib.Numerals.{add-one}
 use native.Mathlib.Omega.{arith}
 use lib.ListN.{length}
+use lib.Seq.{sets}
 use Rattle.model.specs.declared.Machine.{Machine}
 use Rattle.model.specs.declared.Ending.the-variants.{Finished, Outside}
 use Rattle.model.specs.Waits.{waitAt}
 use Rattle.model.specs.Interpreter as I
-use Rattle.model.specs.Words.{overlay}
 use Rattle.model.specs.Journal.{Pair, storedBy, journalPairs, journalWords}
-use Rattle.model.specs.Packed.{packedOf, flagsOf, packedMachine}
-use Rattle.model.proofs.Cases.{cond-true, cond-false, tells}
+use Rattle.model.specs.Packed.{packedOf, packedMachine}
 use Rattle.model.proofs.Packed.{unpacks}
-use Rattle.model.proofs.Bounds.{clocks-le}
 use Rattle.model.proofs.Runs.{runAt, outside-stays, outside-pairs, pairs-le, noted-length, noted-words}
+use Rattle.model.proofs.Bounds.{clocks-le}
 use Rattle.step.specs.declared.Stepped.{Stepped}
-use Rattle.step.specs.Steps.{journaled, steppedOf, stoppedAt, Steps}
+use Rattle.step.specs.Steps.{journaled, Steps}
+use Rattle.step.proofs.Answers.{is-inside, is-stepped, next-regs, next-flags, next-words, next-places, same-regs, same-words, same-places, stops, stores, stores-none}
 use Rattle.interpreter.specs.declared.clocks.Spent.{Spent}
 use Rattle.interpreter.specs.declared.engine.Ended.{Ended}
 use Rattle.interpreter.specs.Clocks.{spentOf}
 use Rattle.interpreter.specs.Engine.{endedAt, EngineEnds}
 
--- ---- what one step says
+-- ---- one turn of the definition
 
 module _ {regs memory journal : List ℕ} {pairs flags : ℕ} {regs′ memory′ journal′ : List ℕ} {s : Stepped}
-    (h : Steps regs memory journal pairs flags regs′ memory′ journal′ s) where
+    (h : Steps regs memory journal pairs flags regs′ memory′ journal′ s) (waits : List ℕ) (p i c : ℕ) where
   abbrev m : Machine
   m = packedMachine regs flags
 
-  is-inside : {v : Bool} → s .inside ≡ v → I.inside memory m ≡ v
-  is-inside e = sym (tells (λ (s : Stepped). s .inside) (I.inside memory m) refl refl (h .result)) ∙ e
+  abbrev at : I.Run
+  at = runAt m memory p i c
 
-  is-stepped : s .inside ≡ true → s ≡ steppedOf memory m pairs
-  is-stepped e = h .result ∙ sym (cond-true (steppedOf memory m pairs) (stoppedAt flags pairs) (is-inside e))
-
-  next-regs : s .inside ≡ true → regs′ ≡ I.nextMachine memory m .regs
-  next-regs e = h .registers ∙ sym (cond-true (I.nextMachine memory m .regs) regs (is-inside e))
-
-  next-flags : s .inside ≡ true → flagsOf (s .flags) ≡ I.nextMachine memory m .flags
-  next-flags e = ap (λ (s : Stepped). flagsOf (s .flags)) (is-stepped e) ∙ unpacks (I.nextMachine memory m .flags)
-
-  next-words : s .inside ≡ true → memory′ ≡ I.nextMemory memory m
-  next-words e = h .words ∙ sym (cond-true (I.nextMemory memory m) memory (is-inside e))
-
-  next-places : s .inside ≡ true → journal′ ≡ journaled memory m journal pairs
-  next-places e = h .places ∙ sym (cond-true (journaled memory m journal pairs) journal (is-inside e))
-
-  same-regs : s .inside ≡ false → regs′ ≡ regs
-  same-regs e = h .registers ∙ sym (cond-false (I.nextMachine memory m .regs) regs (is-inside e))
-
-  same-words : s .inside ≡ false → memory′ ≡ memory
-  same-words e = h .words ∙ sym (cond-false (I.nextMemory memory m) memory (is-inside e))
-
-  same-places : s .inside ≡ false → journal′ ≡ journal
-  same-places e = h .places ∙ sym (cond-false (journaled memory m journal pairs) journal (is-inside e))
-
-  -- one turn of the definition
-  module _ (waits : List ℕ) (p i c : ℕ) where
-    abbrev at : I.Run
-    at = runAt m memory p i c
-
-    advances : s .inside ≡ true → {w : Spent} → w ≡ spentOf waits (record { clocks = c; position = p }) (s .oa) (s .ob) (s .stored)
-        → I.advance waits at ≡ runAt (packedMachine regs′ (s .flags)) memory′ (w .position) (i + 1) (w .clocks)
-    unfolding I.advance I.execute
-    advances e f =
-        ap (λ (t : Bool). cond t (I.execute waits at) (I.stop Outside at)) (is-inside e)
-        ∙ rw (next-regs e, next-flags e, next-words e, f, is-stepped e, add-assoc c (I.baseClocks memory m))
-
-    stops : s .inside ≡ false → I.advance waits at ≡ I.stop Outside at
-    unfolding I.advance
-    stops e = ap (λ (t : Bool). cond t (I.execute waits at) (I.stop Outside at)) (is-inside e)
-
-    former-is : (u b : Bool) (a f g : ℕ)
-        → _≡_ {A = List Pair} (cond (u && b) (record { address = a; former = f } ∷ []) [])
-        (cond (u && b) (record { address = a; former = cond b f g } ∷ []) [])
-    former-is true true a f g = refl
-    former-is true false a f g = refl
-    former-is false b a f g = refl
-
-    stores : s .inside ≡ true
-        → storedBy at ≡ cond (I.storesToMemory memory m) (record { address = I.addressB memory m; former = I.valueB memory m } ∷ []) []
-    unfolding storedBy
-    stores e = rw (is-inside e) (former-is (I.isStored memory m) _ _ _ _)
-
-    stores-none : s .inside ≡ false → storedBy at ≡ []
-    unfolding storedBy
-    stores-none e = rw (is-inside e)
+  advances : s .inside ≡ true → {w : Spent} → w ≡ spentOf waits (record { clocks = c; position = p }) (s .oa) (s .ob) (s .stored)
+      → I.advance waits at ≡ runAt (packedMachine regs′ (s .flags)) memory′ (w .position) (i + 1) (w .clocks)
+  unfolding I.advance I.execute
+  advances e f =
+      ap (λ (t : Bool). cond t (I.execute waits at) (I.stop Outside at)) (is-inside h e)
+      ∙ rw (next-regs h e, next-flags h e, next-words h e, f, is-stepped h e, add-assoc c (I.baseClocks memory m))
 
 -- ---- the loop
 
@@ -104,7 +55,7 @@ module _ (memory₀ waits journal₀ : List ℕ) (start : Machine) (count : ℕ)
   pub record At (memory journal regs : List ℕ) (flags position clocks pairs i : ℕ) : Type 0 where
     pub state : I.interpret waits i first ≡ runAt (packedMachine regs flags) memory position i clocks
     pub counted : pairs ≡ length (pairsAt i)
-    pub journaled : 2 * count ≤ length journal₀ → journal ≡ overlay (journalWords (pairsAt i)) journal₀
+    pub journaled : journal ≡ sets journal₀ 0 (journalWords (pairsAt i))
     pub below : i ≤ count
     pub words : length memory ≡ length memory₀
     pub places : length journal ≡ length journal₀
@@ -138,8 +89,9 @@ module _ {memory₀ waits journal₀ : List ℕ} {start : Machine} {count : ℕ}
           → count < 2 ^ 32 → length memory′ ≡ length memory → length journal′ ≡ length journal
           → At memory₀ waits journal₀ start count memory′ journal′ regs′ (s .flags) (w .position) (w .clocks) (s .pairs) (i + 1)
       turn e f few lm lj =
-          let p : Pair = record { address = I.addressB memory (m h); former = I.valueB memory (m h) } in
-          let stored = I.storesToMemory memory (m h) in
+          let before : Machine = packedMachine regs flags in
+          let p : Pair = record { address = I.addressB memory before; former = I.valueB memory before } in
+          let stored = I.storesToMemory memory before in
           let q : pairsTo (i + 1) ≡ pairsTo i ++ cond stored (p ∷ []) [] =
           next-pairs ∙ ap (λ (l : List Pair). pairsTo i ++ l) (stores h waits position i clocks e) in
           let below : pairs < count = omega (arith, a .counted, pairs-le waits i run₀) in
@@ -149,9 +101,8 @@ module _ {memory₀ waits journal₀ : List ℕ} {start : Machine} {count : ℕ}
                 ap (λ (s : Stepped). s .pairs) (is-stepped h e) ∙ noted-length (pairsTo i) p pairs (a .counted) (omega arith) stored
                 ∙ ap length (sym q);
             journaled =
-                λ room.
-                next-places h e ∙ noted-words (pairsTo i) p pairs (a .counted) journal journal₀ (omega arith) (a .journaled room) stored
-                ∙ ap (λ (l : List Pair). overlay (journalWords l) journal₀) (sym q);
+                next-places h e ∙ noted-words (pairsTo i) p pairs (a .counted) journal journal₀ (a .journaled) stored
+                ∙ ap (λ (l : List Pair). sets journal₀ 0 (journalWords l)) (sym q);
             below = omega arith;
             words = lm ∙ a .words;
             places = lj ∙ a .places;
@@ -170,7 +121,7 @@ module _ {memory₀ waits journal₀ : List ℕ} {start : Machine} {count : ℕ}
           record {
             result = rw (g, ran, same, same-regs h e, a .counted);
             words = rw (ran, same-words h e);
-            pairs = λ room. same-places h e ∙ a .journaled room ∙ ap (λ (l : List Pair). overlay (journalWords l) journal₀) (sym same);
+            places = same-places h e ∙ a .journaled ∙ ap (λ (l : List Pair). sets journal₀ 0 (journalWords l)) (sym same);
           }
 
   pub finished : count ≤ i → {ended : Ended} → ended ≡ endedAt Finished (packedMachine regs flags) i clocks pairs
@@ -180,7 +131,7 @@ module _ {memory₀ waits journal₀ : List ℕ} {start : Machine} {count : ℕ}
       record {
         result = rw (g, e, a .state, a .counted);
         words = rw (e, a .state);
-        pairs = λ room. a .journaled room ∙ ap (λ (n : ℕ). overlay (journalWords (pairsTo n)) journal₀) (sym e);
+        places = a .journaled ∙ ap (λ (n : ℕ). sets journal₀ 0 (journalWords (pairsTo n))) (sym e);
       }
 
 -- ---- from the packed flags of a start
@@ -192,7 +143,7 @@ begins =
     record {
       state = refl;
       counted = refl;
-      journaled = λ _. refl;
+      journaled = refl;
       below = omega arith;
       words = refl;
       places = refl;

@@ -9,10 +9,10 @@ use Rattle.model.specs.declared.Ending.{Ending}
 use Rattle.model.specs.declared.Ending.the-variants.{Finished, Outside}
 use Rattle.model.specs.declared.Verdict.{Verdict}
 use Rattle.model.specs.declared.Verdict.the-variants.{Accepted, Refused}
-use Rattle.model.specs.Refusals.{refusalNumber, verdictNumber, leftBy, runVerdict, fileVerdict}
-use Rattle.model.specs.Interpreter.{Run, begin, interpret}
 use Rattle.model.specs.Words.{overlay}
+use Rattle.model.specs.Interpreter.{Run, begin, interpret}
 use Rattle.model.specs.Journal.{journalPairs, journalWords}
+use Rattle.model.specs.Refusals.{refusalNumber, verdictNumber, leftBy, runVerdict, fileVerdict}
 use Rattle.interpreter.specs.declared.RunAnswer.{RunAnswer}
 use Rattle.interpreter.specs.declared.RunResult.{RunResult}
 use Rattle.interpreter.specs.declared.FileAnswer.{FileAnswer}

@@ -4,8 +4,8 @@ use mathlib.Core.Bool.{Bool}
 use mathlib.Core.List.{List}
 use Rattle.model.specs.declared.Operand.{Operand}
 use Rattle.model.specs.Operands.{inMemory}
-use Rattle.model.specs.Interpreter.{costOf, accessesOf}
 use Rattle.model.specs.Waits.{waitAt, nextPosition, waitSum, positionAfter}
+use Rattle.model.specs.Interpreter.{costOf, accessesOf}
 use Rattle.interpreter.specs.declared.clocks.Spent.{Spent}
 
 -- one access more, and n accesses from position p after c clocks

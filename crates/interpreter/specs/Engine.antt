@@ -1,13 +1,13 @@
 -- What the loop that both runs share leaves: the state, the memory and the journal of `interpret`. Document 01, "Machine and instruction
 -- word", "Clocks" and "File run and journal".
-use Prim.Native.Nat.{ℕ, _*_, _≤_}
+use Prim.Native.Nat.{ℕ}
 use mathlib.Core.Path.{_≡_}
 use mathlib.Core.List.{List}
 use lib.ListN.{length}
+use lib.Seq.{sets}
 use Rattle.model.specs.declared.Machine.{Machine}
 use Rattle.model.specs.declared.Ending.{Ending}
 use Rattle.model.specs.Interpreter.{Run, begin, interpret}
-use Rattle.model.specs.Words.{overlay}
 use Rattle.model.specs.Journal.{journalPairs, journalWords}
 use Rattle.interpreter.specs.declared.engine.Ended.{Ended}
 
@@ -21,4 +21,4 @@ endedOf r pairs = endedAt (r .ending) (r .machine) (r .ran) (r .clocks) pairs
 pub record EngineEnds (memory waits journal : List ℕ) (start : Machine) (count : ℕ) (memory′ journal′ : List ℕ) (e : Ended) : Type 0 where
   pub result : e ≡ endedOf (interpret waits count (begin start memory 0)) (length (journalPairs waits count (begin start memory 0)))
   pub words : memory′ ≡ interpret waits count (begin start memory 0) .memory
-  pub pairs : 2 * count ≤ length journal → journal′ ≡ overlay (journalWords (journalPairs waits count (begin start memory 0))) journal
+  pub places : journal′ ≡ sets journal 0 (journalWords (journalPairs waits count (begin start memory 0)))

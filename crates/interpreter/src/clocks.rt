@@ -3,7 +3,7 @@ use model::Operand;
 use operands::in_memory;
 ghost use mathlib.Core.Path.{_≡_};
 ghost use mathlib.Core.Bool.{cond};
-ghost use Prim.Native.Nat.{_+_, _^_, _<_, _≤_};
+ghost use Prim.Native.Nat.{_+_, _^_, _≤_, _<_};
 ghost use Rattle.model.specs.Interpreter.{costOf};
 ghost use Rattle.interpreter.specs.Clocks.{moreOf, spentOf};
 
@@ -13,7 +13,7 @@ pub struct Spent {
     pub position: usize,
 }
 
-// One clock each for A in memory, B in memory and a store.
+// 8 clocks, and one each for A in memory, B in memory and a store.
 fn cost(a: bool, b: bool, stored: bool) -> u64
     ensures { λ r. ⌜ (r ≡ costOf a b stored) × (r ≤ 11) ⌝ }
 {
@@ -55,6 +55,7 @@ pub fn clocked(waits: &[u16], w: Spent, oa: Operand, ob: Operand, stored: bool) 
     let position = w.position;
     let clocks = w.clocks + cost(mem_a, mem_b, stored);
     let before = Spent { clocks, position };
+    // Past the list no access waits: one test for all four is quicker.
     if waits.len() <= position {
         return before;
     }

@@ -21,10 +21,10 @@ pub struct Ended {
 }
 
 // The loop's locals put together.
-fn run_end(ending: Ending, regs: [u32; 8], bits: u32, ran: u32, clocks: u64, pairs: u32) -> Ended
-    ensures { λ r. ⌜ r ≡ endedAt ending (packedMachine regs bits) ran clocks pairs ⌝ }
+fn run_end(ending: Ending, regs: [u32; 8], flags: u32, ran: u32, clocks: u64, pairs: u32) -> Ended
+    ensures { λ r. ⌜ r ≡ endedAt ending (packedMachine regs flags) ran clocks pairs ⌝ }
 {
-    let flags = unpacked(bits);
+    let flags = unpacked(flags);
     Ended {
         ending,
         machine: Machine { regs, flags },
@@ -34,7 +34,7 @@ fn run_end(ending: Ending, regs: [u32; 8], bits: u32, ran: u32, clocks: u64, pai
     }
 }
 
-// Up to count instructions. A journal of 2 * count places gets every pair; a shorter one is for callers that want none.
+// Up to `count` instructions. A journal of 2 * `count` places gets every pair; callers that want none lend an empty one.
 pub fn engine(
     memory: &mut [u32],
     waits: &[u16],

@@ -49,7 +49,7 @@ fn run_answer(ending: Ending) -> RunAnswer
     }
 }
 
-// Up to count instructions from start, with waits.
+// Up to `count` instructions from `start`, with waits.
 pub fn run(memory: &mut [u32], waits: &[u16], start: Machine, count: u32) -> RunResult
     ensures { λ r. ⌜ Runs (now (memory .entry)) (now (waits .entry)) start count (now (memory .exit)) r ⌝ }
 {
@@ -76,7 +76,7 @@ pub fn run(memory: &mut [u32], waits: &[u16], start: Machine, count: u32) -> Run
     }
 }
 
-// Up to count instructions from start, without waits; each store to memory is journaled, and a run that comes outside is undone.
+// Up to `count` instructions from `start`, without waits; each store to memory is journaled, and a run that comes outside is undone.
 pub fn file_run(memory: &mut [u32], journal: &mut [u32], start: Machine, count: u32) -> FileResult
     ensures { λ r. ⌜ FileRuns (now (memory .entry)) (now (journal .entry)) start count (now (memory .exit)) (now (journal .exit)) r ⌝ }
 {

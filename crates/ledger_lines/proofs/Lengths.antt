@@ -12,11 +12,11 @@ use Rattle.model.specs.declared.Machine.{Machine}
 use Rattle.model.specs.declared.Ending.{Ending}
 use Rattle.model.specs.declared.Ending.the-variants.{Finished, Outside}
 use Rattle.model.specs.declared.Refusal.{Refusal}
-use Rattle.model.specs.Refusals.{refusalNumber}
 use Rattle.model.specs.Interpreter.{Run, begin, interpret}
+use Rattle.model.specs.Refusals.{refusalNumber}
 use Rattle.model.proofs.Waits.{no-wait}
-use Rattle.model.proofs.Verdicts.{numbered}
 use Rattle.model.proofs.Bounds.{clocks-le, ran-le}
+use Rattle.model.proofs.Verdicts.{numbered}
 use Rattle.image.specs.Reading.{Outcome, loaded, refused}
 use Rattle.text.specs.Text.{decimal}
 use Rattle.text.proofs.Figures.{length-digits, decimal-le}

@@ -5,8 +5,8 @@ use Rattle.model.specs.declared.Flags.{Flags}
 use Rattle.model.specs.declared.Ending.{Ending}
 use Rattle.model.specs.declared.Ending.the-variants.{Finished, Outside}
 use Rattle.model.specs.declared.Refusal.{Refusal}
-use Rattle.model.specs.Refusals.{refusalNumber}
 use Rattle.model.specs.Interpreter.{Run, begin, pc, instruction, interpret}
+use Rattle.model.specs.Refusals.{refusalNumber}
 use Rattle.image.specs.Reading.{Outcome, loaded, refused}
 use Rattle.text.specs.Text.{letters, space, lineFeed, decimal, hexadecimal, flagDigits}
 

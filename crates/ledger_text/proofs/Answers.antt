@@ -9,8 +9,8 @@ use lib.ListN.{length, take, drop, length-append, length-drop}
 use lib.Seq.{drop-at}
 use borrow.Author.Tests.{le-leb, lt-leb}
 use Rattle.model.specs.declared.Refusal.{Refusal}
-use Rattle.model.specs.Refusals.{mostWords}
 use Rattle.model.specs.Words.{overlay}
+use Rattle.model.specs.Refusals.{mostWords}
 use Rattle.model.proofs.Stores.{overlaid}
 use Rattle.image.specs.declared.ReadAnswer.{ReadAnswer}
 use Rattle.image.specs.declared.ReadResult.{ReadResult}
@@ -81,8 +81,8 @@ module _ {bytes memory memory₁ : List ℕ} {r : ReadResult} (h : Reads bytes m
         ∙ drop-at (l .words) (drop (length (l .words)) memory) count (l .long)
         ∙ ap (λ (k : ℕ). drop k memory) (l .long)
 
-    pub runs : (0 < length (take count memory₁)) × (length (take count memory₁) ≤ mostWords)
-    runs = rw first (loaded-fits (length memory) (l .version) (r .machine) (l .words) bytes (l .is))
+    pub words-fit : (0 < length (take count memory₁)) × (length (take count memory₁) ≤ mostWords)
+    words-fit = rw first (loaded-fits (length memory) (l .version) (r .machine) (l .words) bytes (l .is))
 
     pub report-carried : {out part out′ : List ℕ} {q : ℕ} → longestText ≤ length out → RunPuts (r .machine) (take count memory₁) out part out′ q
         → length part ≡ length (take count memory₁) → Reports bytes memory out (part ++ drop count memory₁) out′ (ReportAnswer.Text q)

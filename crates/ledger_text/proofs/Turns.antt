@@ -7,8 +7,8 @@ use lib.ListN.{length}
 use Rattle.model.specs.declared.Machine.{Machine}
 use Rattle.model.specs.declared.Ending.the-variants.{Finished, Outside}
 use Rattle.model.specs.declared.Verdict.the-variants.{Accepted}
-use Rattle.model.specs.Refusals.{mostWords, runVerdict}
 use Rattle.model.specs.Interpreter.{Run, pc, instruction, begin, stop, interpret}
+use Rattle.model.specs.Refusals.{mostWords, runVerdict}
 use Rattle.model.proofs.Runs.{runAt}
 use Rattle.model.proofs.Verdicts.{run-accepted}
 use Rattle.interpreter.specs.declared.RunResult.{RunResult}
@@ -67,8 +67,8 @@ module _ {start : Machine} {memory₀ out₀ : List ℕ} {at₀ : ℕ} where
       words-are : memory′ ≡ oneRun machine memory .memory
       words-are = left-in memory [] machine 1 accepted h
 
-      pub clocks-fit : clocks + r .clocks ≤ 200
-      clocks-fit =
+      pub total-fits : clocks + r .clocks ≤ 200
+      total-fits =
           omega (
             arith,
             clocks-so-far,

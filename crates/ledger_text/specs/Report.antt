@@ -5,8 +5,8 @@ use mathlib.Core.Bool.{Bool, cond}
 use mathlib.Core.List.{List, []}
 use lib.Dec.{leb}
 use lib.ListN.{length}
-use Rattle.model.specs.Interpreter.{begin, interpret}
 use Rattle.model.specs.Words.{overlay}
+use Rattle.model.specs.Interpreter.{begin, interpret}
 use Rattle.image.specs.Reading.{Outcome, loaded, refused, readOf}
 use Rattle.ledger_lines.specs.Lines.{mostLines, longestText, ledger}
 use Rattle.ledger_text.specs.declared.ReportAnswer.{ReportAnswer}

@@ -7,7 +7,7 @@ use text::put_decimal;
 use text::put_flag_digits;
 use text::put_hexadecimal;
 use text::put_text;
-ghost use mathlib.Core.List.{_∷_, [], _++_};
+ghost use mathlib.Core.List.{[], _∷_, _++_};
 ghost use Prim.Native.Nat.{_^_, _<_};
 ghost use Rattle.text.specs.Text.{decimal, hexadecimal};
 ghost use Rattle.ledger_lines.specs.Lines.{heading, line, endingWord, endingText, refusedText};
@@ -59,22 +59,22 @@ pub fn put_line(
     after_flags + put_text(out, after_flags, b"\n")
 }
 
-fn put_ending_word(out: &mut [u8], at: usize, how: Ending) -> usize
+fn put_ending_word(out: &mut [u8], at: usize, ending: Ending) -> usize
     requires { ⌜ at < 2 ^ 16 ⌝ }
-    ensures { λ r. ⌜ ExtendsBy 9 (now (out .entry)) at (endingWord how) (now (out .exit)) r ⌝ }
+    ensures { λ r. ⌜ ExtendsBy 9 (now (out .entry)) at (endingWord ending) (now (out .exit)) r ⌝ }
 {
-    match how {
+    match ending {
         Ending::Finished => at + put_text(out, at, b"finished "),
         Ending::Outside => at + put_text(out, at, b"outside "),
     }
 }
 
 // The ending's word, with count and total.
-pub fn put_ending(out: &mut [u8], at: usize, how: Ending, count: u64, total: u64) -> usize
+pub fn put_ending(out: &mut [u8], at: usize, ending: Ending, count: u64, total: u64) -> usize
     requires { ⌜ at < 2 ^ 16 ⌝ }
-    ensures { λ r. ⌜ Extends (now (out .entry)) at (endingText (endingWord how) count total) (now (out .exit)) r ⌝ }
+    ensures { λ r. ⌜ Extends (now (out .entry)) at (endingText (endingWord ending) count total) (now (out .exit)) r ⌝ }
 {
-    let after_word = put_ending_word(out, at, how);
+    let after_word = put_ending_word(out, at, ending);
     let after_count = put_decimal_figure(out, after_word, count, b' ');
     put_decimal_figure(out, after_count, total, b'\n')
 }

@@ -78,12 +78,12 @@ module _ (waits memory : List ℕ) (s : GateState) where
   abbrev m : Machine
   m = machineOf s
 
-  -- the operands' register words, and whether what they address is there
+  -- A's register word
   abbrev pub wordA : ℕ
   wordA = registerWord (I.opA memory m) (I.regsA memory m)
 
   -- the state in row 3, then before and in row 5, 7 and 10
-  abbrev pub fetched : GateState
+  abbrev fetched : GateState
   fetched =
       stepPc memory (readInstruction memory (withAccess (nextPosition waits (s .position)) false 0 (addressPc memory (idle s))))
 

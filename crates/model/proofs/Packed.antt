@@ -1,13 +1,13 @@
 -- Packed flags: packing and unpacking are inverse, and a masked merge chooses each flag by its permit.
-use Prim.Native.Nat.{ℕ, zero, _+_, _-_, _*_, _/_, _%_, _<_}
+use Prim.Native.Nat.{ℕ, _+_, _-_, _*_, _/_, _%_, _≤_, _<_}
 use mathlib.Core.Path.{_≡_, refl, ap, _∙_}
-use mathlib.Core.Bool.{Bool, true, false, not, cond}
+use mathlib.Core.Bool.{Bool, not, cond}
 use native.Mathlib.Nat.{div-one, div-div-eq-div-mul}
 use native.Mathlib.Omega.{arith}
 use lib.Bits.{bitAnd, bitOr, and-le-l, and-block, or-block}
 use Rattle.arithmetic.specs.declared.AluOut.{AluOut}
 use Rattle.arithmetic.specs.Words.{asNumber}
-use Rattle.arithmetic.proofs.Bits.{bit-le, digit-bit, low-nibble}
+use Rattle.arithmetic.proofs.Bits.{one, three, bit-le, digit-bit, low-nibble}
 use Rattle.model.specs.declared.Flags.{Flags}
 use Rattle.model.specs.Words.{field, bit}
 use Rattle.model.specs.Alu.{flagsAfter}
@@ -15,13 +15,17 @@ use Rattle.model.specs.Packed.{packedOf, flagsOf}
 
 -- ---- packing and unpacking
 
+pub flags-le : (f : Flags) → (asNumber (f .carry) ≤ 1) × (asNumber (f .overflow) ≤ 1) × (asNumber (f .negative) ≤ 1) × (asNumber (f .zero) ≤ 1)
+flags-le f = (bit-le (f .carry), bit-le (f .overflow), bit-le (f .negative), bit-le (f .zero))
+
 pub unpacks : (f : Flags) → flagsOf (packedOf f) ≡ f
 unfolding flagsOf packedOf bit field
 unpacks f =
-    let c = bit-le (f .carry) in
-    let v = bit-le (f .overflow) in
-    let n = bit-le (f .negative) in
-    let z = bit-le (f .zero) in
+    let l = flags-le f in
+    let c = l .0 in
+    let v = l .1 in
+    let n = l .2 in
+    let z = l .3 in
     rw (
       digit-bit (f .carry) {x = packedOf f / 8 % 2} (omega arith),
       digit-bit (f .overflow) {x = packedOf f / 4 % 2} (omega arith),
@@ -41,14 +45,7 @@ abbrev merged : ℕ → ℕ → ℕ → ℕ → ℕ
 merged f q g p = bitOr (bitAnd f q) (bitAnd g p)
 
 digit-merged : (p g f : Bool) → merged (asNumber f) (asNumber (not p)) (asNumber g) (asNumber p) ≡ asNumber (cond p g f)
-digit-merged true true true = refl
-digit-merged true true false = refl
-digit-merged true false true = refl
-digit-merged true false false = refl
-digit-merged false true true = refl
-digit-merged false true false = refl
-digit-merged false false true = refl
-digit-merged false false false = refl
+digit-merged = three _ refl refl refl refl refl refl refl refl
 
 and-digit : (b : Bool) (x : ℕ) → bitAnd (asNumber b) x < 2
 and-digit b x = let s = bit-le b in omega (arith, and-le-l (asNumber b) x)
@@ -80,8 +77,7 @@ unfolding packedOf
 inverted-weighs p = omega (arith, both (p .carry), both (p .overflow), both (p .negative), both (p .zero))
   where
     both : (b : Bool) → asNumber b + asNumber (not b) ≡ 1
-    both true = refl
-    both false = refl
+    both = one _ refl refl
 
 -- each flag of g where p permits it, else of f
 abbrev chosen : (p g f : Flags) → Flags

@@ -1,12 +1,11 @@
 -- A list with values stored from a place on (`sets`), part by part, and laid over its front.
-use Prim.Native.Nat.{ℕ, suc, _+_, _≤_, _<_}
+use Prim.Native.Nat.{ℕ, suc, _+_, _≤_}
 use mathlib.Core.Path.{_≡_, refl, sym, ap, ap₂, _∙_}
-use mathlib.Core.List.{List, [], _∷_, _++_}
+use mathlib.Core.List.{List, [], _∷_, _++_, append-nil}
 use native.Mathlib.Nat.{add-zero, zero-add}
-use native.Mathlib.Numerals.{add-one}
 use native.Mathlib.Omega.{arith}
-use lib.ListN.{length, getD, set, drop, length-append, length-set}
-use lib.Seq.{sets, sets-eq, set-out, set-comm, set-append-seam, drop-cons, append-snoc}
+use lib.ListN.{length, set, drop, length-set}
+use lib.Seq.{sets, sets-eq, set-out, set-comm, drop-length}
 use Rattle.model.specs.Words.{overlay}
 
 -- values stored one after the other are stored together
@@ -44,13 +43,10 @@ store-end list at b whole p e = ap (sets list at) (sym p) ∙ e
 pub overlaid : (list values : List ℕ) → length values ≤ length list → sets list 0 values ≡ overlay values list
 overlaid list values h = sets-eq values list 0 (rw zero-add h) ∙ ap (λ (n : ℕ). values ++ drop n list) (zero-add (length values))
 
--- one value more laid over
-pub overlay-more : (xs j : List ℕ) (n v : ℕ) → n ≡ length xs → n < length j → set (overlay xs j) n v ≡ overlay (xs ++ (v ∷ [])) j
-overlay-more xs j n v e h =
-    let l : length xs < length j = omega arith in
-    let k : length (xs ++ (v ∷ [])) ≡ suc (length xs) = length-append xs (v ∷ []) ∙ add-one (length xs) in
-    ap (λ (i : ℕ). set (overlay xs j) i v) e
-    ∙ ap (λ (d : List ℕ). set (xs ++ d) (length xs) v) (drop-cons j (length xs) 0 l)
-    ∙ set-append-seam xs (getD j (length xs) 0) (drop (suc (length xs)) j) v
-    ∙ sym (append-snoc xs v (drop (suc (length xs)) j))
-    ∙ ap (λ (i : ℕ). (xs ++ (v ∷ [])) ++ drop i j) (sym k)
+-- as many values as the list has replace it
+pub all-set : (list values : List ℕ) → length list ≡ length values → sets list 0 values ≡ values
+all-set list values e =
+    overlaid list values (omega arith)
+    ∙ ap (λ (n : ℕ). values ++ drop n list) (sym e)
+    ∙ ap (λ (l : List ℕ). values ++ l) (drop-length list)
+    ∙ append-nil values

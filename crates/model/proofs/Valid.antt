@@ -14,8 +14,8 @@ use Rattle.model.specs.Operands.{operandA, operandB, inMemory}
 use Rattle.model.specs.Alu.{stores}
 use Rattle.model.specs.Waits.{nextPosition}
 use Rattle.model.specs.GateMachine.{Gate, gate, withAccess, onState, addressPc, readInstruction, stepPc, prepareA, readA, prepareB, readB, compute, writeRegister, writeMemory, stepUpA, stepUpB, rows, work, isAccess, positionNow, clock, gateRun}
-use Rattle.model.specs.Agreement.{gateFrom}
 use Rattle.model.specs.Refusals.{mostWaits, _then_, memoryFits, waitsFit, accessFormed, stateFits, gateVerdict}
+use Rattle.model.specs.Agreement.{gateFrom}
 use Rattle.model.proofs.Cases.{pick, Each, past, _▸_}
 use Rattle.model.proofs.Clocks.{accessOver, one-clock}
 use Rattle.model.proofs.Verdicts.{demanded, both}

@@ -1,5 +1,5 @@
--- Operands: decoding, the register's step before and after the access, the operand's address and value. Document 01, "Machine and
--- instruction word", modes and (ii), (iii), (v), (vi).
+-- Operands: decoding, the register's step before and after the access, the operand's address and value, the store into B. Document 01,
+-- "Machine and instruction word", modes and (ii) to (vi).
 use Prim.Native.Nat.{ℕ, _%_}
 use mathlib.Core.Bool.{Bool, true, false, not, cond, _||_}
 use mathlib.Core.List.{List, [], _∷_}

@@ -1,5 +1,5 @@
 -- The four flags as four numbers, and as the bits of one number in the order in which an instruction word permits them: Z, N, V, C from bit
--- 0. The latches of a gate state as numbers. Document 01, "Machine and instruction word" and "Clocks".
+-- 0. What a gate state has beside registers and flags, as numbers. Document 01, "Machine and instruction word" and "Clocks".
 use Prim.Native.Nat.{ℕ}
 use mathlib.Core.Bool.{false}
 use mathlib.Core.List.{List, [], _∷_}

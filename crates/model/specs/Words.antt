@@ -1,5 +1,5 @@
--- Words of 32 bits as natural numbers: steps that go round at 2^32, bit fields, a list as registers or memory. Document 01, "Machine and
--- instruction word".
+-- Words of 32 bits as natural numbers: steps that go round at 2^32, bit fields, a list as registers or memory, and words laid over the
+-- front of a lent list. Document 01, "Machine and instruction word", and of "Image" and "File run and journal" what does not change.
 use Prim.Native.Nat.{ℕ, _+_, _-_, _/_, _%_, _^_}
 use mathlib.Core.Bool.{Bool}
 use mathlib.Core.List.{List, _++_}

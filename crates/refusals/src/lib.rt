@@ -51,7 +51,7 @@ pub fn then(first: Verdict, second: Verdict) -> Verdict
     }
 }
 
-// 1 and 2.
+// Reasons 1 and 2.
 pub fn memory_fits(memory: &[u32]) -> Verdict
     ensures { λ r. ⌜ r ≡ memoryFits (now (memory .entry)) ⌝ }
 {

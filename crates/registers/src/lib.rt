@@ -7,7 +7,6 @@ ghost use Prim.Native.Nat.{_<_};
 ghost use Rattle.model.specs.Words.{inc, dec};
 ghost use Rattle.model.specs.Operands.{stepped, stepDown, stepUp, registerWord, setRegister};
 
-// The word of an operand's register.
 pub fn register_word(o: Operand, regs: &[u32; 8]) -> u32
     ensures { λ r. ⌜ r ≡ registerWord o (now (regs .entry)) ⌝ }
 {
@@ -15,7 +14,6 @@ pub fn register_word(o: Operand, regs: &[u32; 8]) -> u32
     regs[at]
 }
 
-// Puts a word into an operand's register.
 pub fn set_register(o: Operand, x: u32, regs: &mut [u32; 8])
     ensures { λ _. ⌜ now (regs .exit) ≡ setRegister o x (now (regs .entry)) ⌝ }
 {

@@ -1,2 +1,3 @@
 mod Operands
 mod Steps
+pub mod Answers

@@ -8,12 +8,12 @@ use Rattle.model.specs.declared.Operand.{Operand}
 use Rattle.model.specs.Words.{inc, wordAt, storeWord}
 use Rattle.model.specs.Operands.{operandA, operandB, inMemory, registerWord, stepped, stepDown, operandPresent, setRegister}
 use Rattle.model.specs.Interpreter as I
-use Rattle.model.proofs.Operands.{restored, restored-pc, down-eq, fetch-here, fetch-gone}
 use Rattle.model.proofs.Cases.{cond-true, cond-false, tells}
+use Rattle.model.proofs.Operands.{restored, restored-pc, down-eq, fetch-here, fetch-gone}
 use Rattle.step.specs.declared.take.Taken.{Taken}
 use Rattle.step.specs.declared.fetch.Fetched.{Fetched}
 use Rattle.step.specs.declared.Stepped.{Stepped}
-use Rattle.step.specs.Steps.{takenOf, Takes, bare, nothing, fetchedOf, Fetches, Notes, PutsResult, Finishes, stoppedAt, Steps}
+use Rattle.step.specs.Steps.{takenOf, Takes, bare, nothing, fetchedOf, Fetches, Notes, PutsWord, Finishes, stoppedAt, Steps}
 
 -- an operand taken, in the definition's terms, and its registers
 took : {o q : Operand} {r s d : List ℕ} {t : Taken} (memory : List ℕ) → o ≡ q → r ≡ s → Takes o r memory d t
@@ -51,17 +51,17 @@ module _ {o : Operand} {r memory d : List ℕ} {t : Taken} (e : t ≡ takenOf o 
 -- ---- the store
 
 module _ {f : Fetched} {x pairs : ℕ} {regs memory journal : List ℕ} {t : Bool} where
-  pub puts-none : t ≡ false → PutsResult t f x pairs regs memory journal regs memory journal pairs
+  pub puts-none : t ≡ false → PutsWord t f x pairs regs memory journal regs memory journal pairs
   puts-none e = record { registers = rw e; words = rw e; places = rw e; count = rw e }
 
   pub puts-memory : t ≡ true → inMemory (f .ob) ≡ true → {i r : ℕ} {memory′ journal′ : List ℕ}
       → i ≡ f .address → memory′ ≡ storeWord memory i x → Notes journal pairs (f .address) (f .b) journal′ r
-      → PutsResult t f x pairs regs memory journal regs memory′ journal′ r
+      → PutsWord t f x pairs regs memory journal regs memory′ journal′ r
   puts-memory e m p q n =
       record { registers = rw (e, m); words = rw (e, m, q, p); places = rw (e, m) (n .places); count = rw (e, m) (n .count) }
 
   pub puts-register : t ≡ true → inMemory (f .ob) ≡ false → {regs′ : List ℕ} → regs′ ≡ setRegister (f .ob) x regs
-      → PutsResult t f x pairs regs memory journal regs′ memory journal pairs
+      → PutsWord t f x pairs regs memory journal regs′ memory journal pairs
   puts-register e m q = record { registers = rw (e, m) q; words = rw (e, m); places = rw (e, m); count = rw (e, m) }
 
 -- ---- the fetch

@@ -76,7 +76,7 @@ putPlaces stored f pairs journal = cond (stored && inMemory (f .ob)) (noted jour
 abbrev pub putCount : Bool → Fetched → ℕ → ℕ
 putCount stored f pairs = cond (stored && inMemory (f .ob)) (inc pairs) pairs
 
-pub record PutsResult (stored : Bool) (f : Fetched) (x pairs : ℕ) (regs memory journal regs′ memory′ journal′ : List ℕ) (r : ℕ) : Type 0 where
+pub record PutsWord (stored : Bool) (f : Fetched) (x pairs : ℕ) (regs memory journal regs′ memory′ journal′ : List ℕ) (r : ℕ) : Type 0 where
   pub registers : regs′ ≡ putRegisters stored f x regs
   pub words : memory′ ≡ putWords stored f x memory
   pub places : journal′ ≡ putPlaces stored f pairs journal

@@ -13,7 +13,7 @@ ghost use Rattle.step.specs.Steps.{stoppedAt, Steps};
 
 // What one instruction leaves: the flags, packed; its operands as decoded and whether its result was stored, which decide its clocks and
 // accesses; the pairs in the journal.
-// Where an address is absent, inside is false and nothing has changed.
+// Where an address is absent, `inside` is false and nothing has changed.
 pub struct Stepped {
     pub inside: bool,
     pub flags: u32,

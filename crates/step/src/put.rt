@@ -4,7 +4,7 @@ use operands::in_memory;
 use operands::store;
 use operands::wide;
 use registers::set_register;
-ghost use Rattle.step.specs.Steps.{Notes, PutsResult};
+ghost use Rattle.step.specs.Steps.{Notes, PutsWord};
 
 // One pair more. Returns the number of pairs.
 fn note(journal: &mut [u32], pairs: u32, address: u32, former: u32) -> u32
@@ -16,7 +16,7 @@ fn note(journal: &mut [u32], pairs: u32, address: u32, former: u32) -> u32
     std::num::wrapping_add_u32(pairs, 1)
 }
 
-// Into the register, or to the address that B was taken from, if x is to be stored. Returns the number of pairs.
+// Into the register, or to the address that B was taken from, if `x` is to be stored. Returns the number of pairs.
 pub fn put(
     stored: bool,
     f: Fetched,
@@ -26,7 +26,7 @@ pub fn put(
     memory: &mut [u32],
     journal: &mut [u32],
 ) -> u32
-    ensures { λ r. ⌜ PutsResult stored f x pairs (now (regs .entry)) (now (memory .entry)) (now (journal .entry)) (now (regs .exit)) (now (memory .exit)) (now (journal .exit)) r ⌝ }
+    ensures { λ r. ⌜ PutsWord stored f x pairs (now (regs .entry)) (now (memory .entry)) (now (journal .entry)) (now (regs .exit)) (now (memory .exit)) (now (journal .exit)) r ⌝ }
 {
     if !stored {
         return pairs;

@@ -31,7 +31,7 @@ pub fn flag_digit(flag: bool) -> u8
     if flag { b'1' } else { b'0' }
 }
 
-// The last count digits of n, from the lowest up.
+// The last `count` digits of `n`, from the lowest up; none past the end, so that no place is too large a number.
 pub fn put_digits(out: &mut [u8], at: usize, base: u64, count: usize, n: u64)
     requires { ⌜ (0 < base) × (base ≤ 16) × (count ≤ 20) ⌝ }
     ensures { λ _. ⌜ now (out .exit) ≡ sets (now (out .entry)) at (digits base count n) ⌝ }
@@ -47,7 +47,7 @@ pub fn put_digits(out: &mut [u8], at: usize, base: u64, count: usize, n: u64)
     }
 }
 
-// How many decimal digits n has.
+// How many decimal digits `n` has.
 pub fn count_digits(n: u64) -> usize
     ensures { λ r. ⌜ r ≡ digitCount n n ⌝ }
 {

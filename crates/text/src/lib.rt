@@ -1,4 +1,4 @@
-// Text as bytes in a lent buffer. Bytes that would stand past the buffer's end are left out, so no call refuses;
+// Text as bytes in a borrowed buffer. Bytes that would stand past the buffer's end are left out, so no call refuses;
 // each answers how long its text is.
 mod digits;
 
@@ -9,7 +9,7 @@ use digits::put_digits;
 use model::Flags;
 ghost use Rattle.text.specs.Text.{decimal, hexadecimal, flagDigits, Puts};
 
-// Plain bytes.
+// Plain bytes. A text that begins past the end is left out at once, so that no place is too large a number.
 pub fn put_text(out: &mut [u8], at: usize, text: &[u8]) -> usize
     ensures { λ r. ⌜ Puts (now (out .entry)) at (now (text .entry)) (now (out .exit)) r ⌝ }
 {

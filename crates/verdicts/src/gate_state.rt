@@ -2,6 +2,7 @@
 use model::GateState;
 use step_table::ACCESS;
 use step_table::LAST_ROW;
+use step_table::Step;
 use step_table::steps;
 ghost use mathlib.Core.Path.{_≡_};
 ghost use Rattle.model.specs.GateMachine.{isAccess};
@@ -14,7 +15,8 @@ fn is_access(row: u8) -> bool
     if row <= LAST_ROW {
         let table = steps();
         let step = table[row as usize];
-        return step.3 == ACCESS;
+        let Step(_, _, _, mark) = step;
+        return mark == ACCESS;
     }
     false
 }

@@ -17,14 +17,14 @@ const MOST_WAITS: usize = 65_536;
 
 const MOST_INSTRUCTIONS: u32 = 65_536;
 
-// 3.
+// Reason 3.
 fn waits_fit(waits: &[u16]) -> Verdict
     ensures { λ r. ⌜ r ≡ waitsFit (now (waits .entry)) ⌝ }
 {
     demand(waits.len() <= MOST_WAITS, Refusal::LongWaitList)
 }
 
-// 4.
+// Reason 4.
 fn state_fits(s: GateState) -> Verdict
     ensures { λ r. ⌜ r ≡ stateFits s ⌝ }
 {
@@ -34,7 +34,7 @@ fn state_fits(s: GateState) -> Verdict
     )
 }
 
-// 5 and 6, of a file run of count instructions.
+// Reasons 5 and 6, of a file run of `count` instructions.
 fn journal_fits(journal: &[u32], count: u32) -> Verdict
     ensures { λ r. ⌜ r ≡ journalFits (now (journal .entry)) count ⌝ }
 {

@@ -1,5 +1,5 @@
-//! The C baselines. They have the library's calls, so that the declarations are
-//! the same but for the names.
+//! The baselines in C. They have the library's calls without the lengths that the
+//! library checks, and refuse nothing.
 
 mod raw {
     extern "C" {

@@ -1,8 +1,8 @@
-//! The gate machine in Rust, written for speed: a lent state and a match on the row.
+//! The gate machine in Rust, written for speed: a local state and a match on the row.
 
 use super::gate_unit::gate_unit;
 use super::operand::{Operand, DIRECT};
-use fm8502::library::DONE;
+use fm8502::library::{DONE, MACHINE_SIZE};
 
 #[derive(Clone, Copy)]
 struct State {
@@ -50,7 +50,9 @@ impl State {
         registers.copy_from_slice(&words[..8]);
         State {
             registers,
-            flags: words[8..12].iter().fold(0, |flags, bit| 2 * flags + bit),
+            flags: words[8..MACHINE_SIZE]
+                .iter()
+                .fold(0, |flags, bit| 2 * flags + bit),
             row: words[12],
             instruction: words[13],
             address: words[14],
@@ -65,10 +67,10 @@ impl State {
 
     fn give(&self, words: &mut [u32]) {
         words[..8].copy_from_slice(&self.registers);
-        for (i, word) in words[8..12].iter_mut().enumerate() {
+        for (i, word) in words[8..MACHINE_SIZE].iter_mut().enumerate() {
             *word = self.flags >> (3 - i) & 1;
         }
-        words[12..].copy_from_slice(&[
+        words[MACHINE_SIZE..].copy_from_slice(&[
             self.row,
             self.instruction,
             self.address,

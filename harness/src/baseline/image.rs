@@ -2,7 +2,7 @@
 
 use fm8502::library::DONE;
 
-const FIELD_WORDS: usize = 1_024;
+const WORDS_PER_FIELD: usize = 1_024;
 /// Where the registers, the flags, the word count and the first words stand.
 const REGISTERS: usize = 7;
 const FLAGS: usize = 42;
@@ -13,21 +13,31 @@ pub fn image_write(memory: &[u32], machine: &[u32], out: &mut [u8], result: &mut
     out[..REGISTERS].copy_from_slice(&[1, 1, 0, 1, 2, 32, 0]);
     put_words(&machine[..8], &mut out[REGISTERS..]);
     out[REGISTERS + 32..FLAGS].copy_from_slice(&[3, 4, 0]);
-    for (byte, &flag) in out[FLAGS..].iter_mut().zip(&machine[8..]) {
-        *byte = flag as u8;
-    }
+    put_flags(&machine[8..], &mut out[FLAGS..]);
     out[FLAGS + 4..COUNT].copy_from_slice(&[4, 4, 0]);
     put_words(&[memory.len() as u32], &mut out[COUNT..]);
+    let end = put_fields(memory, out);
+    out[end..end + 3].copy_from_slice(&[0xFF, 0, 0]);
+    result[0] = end as u64 + 3;
+    DONE
+}
+
+fn put_flags(flags: &[u32], out: &mut [u8]) {
+    for (byte, &flag) in out.iter_mut().zip(flags) {
+        *byte = flag as u8;
+    }
+}
+
+/// Returns the place after the fields.
+fn put_fields(memory: &[u32], out: &mut [u8]) -> usize {
     let mut at = WORDS;
-    for words in memory.chunks(FIELD_WORDS) {
+    for words in memory.chunks(WORDS_PER_FIELD) {
         let [low, high] = (4 * words.len() as u16).to_le_bytes();
         out[at..at + 3].copy_from_slice(&[5, low, high]);
         put_words(words, &mut out[at + 3..]);
         at += 3 + 4 * words.len();
     }
-    out[at..at + 3].copy_from_slice(&[0xFF, 0, 0]);
-    result[0] = at as u64 + 3;
-    DONE
+    at
 }
 
 fn put_words(words: &[u32], out: &mut [u8]) {
@@ -48,13 +58,8 @@ pub fn image_read(
     let words = count[0] as usize;
     check_headers(bytes, words);
     get_words(&bytes[REGISTERS..], &mut machine[..8]);
-    for (flag, &byte) in machine[8..].iter_mut().zip(&bytes[FLAGS..]) {
-        *flag = u32::from(byte);
-    }
-    let fields = bytes[WORDS..].chunks(3 + 4 * FIELD_WORDS);
-    for (field, cells) in fields.zip(memory[..words].chunks_mut(FIELD_WORDS)) {
-        get_words(&field[3..], cells);
-    }
+    get_flags(&bytes[FLAGS..], &mut machine[8..]);
+    get_fields(&bytes[WORDS..], &mut memory[..words]);
     result[0] = words as u64;
     DONE
 }
@@ -64,13 +69,26 @@ fn check_headers(bytes: &[u8], words: usize) {
     let mut at = WORDS;
     let mut due = words;
     while due > 0 {
-        let here = due.min(FIELD_WORDS);
+        let here = due.min(WORDS_PER_FIELD);
         let [low, high] = (4 * here as u16).to_le_bytes();
         assert_eq!(bytes[at..at + 3], [5, low, high]);
         at += 3 + 4 * here;
         due -= here;
     }
     assert_eq!(bytes[at..], [0xFF, 0, 0]);
+}
+
+fn get_flags(bytes: &[u8], flags: &mut [u32]) {
+    for (flag, &byte) in flags.iter_mut().zip(bytes) {
+        *flag = u32::from(byte);
+    }
+}
+
+fn get_fields(bytes: &[u8], memory: &mut [u32]) {
+    let fields = bytes.chunks(3 + 4 * WORDS_PER_FIELD);
+    for (field, words) in fields.zip(memory.chunks_mut(WORDS_PER_FIELD)) {
+        get_words(&field[3..], words);
+    }
 }
 
 fn get_words(bytes: &[u8], words: &mut [u32]) {

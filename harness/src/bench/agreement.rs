@@ -5,6 +5,7 @@ use super::workload::{
 };
 use crate::baseline::{Contender, CONTENDERS};
 use crate::words::{machine_words, state_words};
+use fm8502::library::{MACHINE_SIZE, STATE_SIZE};
 use reference::generate::program::{any_program, Program};
 use reference::generate::state::gate_state;
 use reference::image::image_size;
@@ -12,6 +13,15 @@ use reference::rng::Rng;
 
 /// Ends the program with the case where two contenders differ.
 pub fn check(starts: u64) {
+    check_starts(starts);
+    check_measured();
+    for words in [1, 2, 1_023, 1_024, 1_025, 2_048, 5_000] {
+        check_images(words);
+    }
+}
+
+/// Generated starts.
+fn check_starts(starts: u64) {
     for seed in 0..starts {
         let mut rng = Rng::new(seed);
         let program = any_program(&mut rng);
@@ -25,24 +35,25 @@ pub fn check(starts: u64) {
         check_gates(&workload, workload.state(), rng.below(400) as u64);
         check_gates(&workload, any_state(&mut rng, &program), 60);
     }
-    for workload in [
+}
+
+/// The measured programs, without waits and with them.
+fn check_measured() {
+    let plain = [
         register_loop(),
         stacking_loop(),
         stacking_outside(),
         generated(),
         moves_loop(),
-    ] {
-        for workload in [workload.with_waits(), workload] {
-            check_runs(&workload, 65_536);
-            check_gates(&workload, workload.state(), 50_000);
-        }
-    }
-    for words in [1, 2, 1_023, 1_024, 1_025, 2_048, 5_000] {
-        check_images(words);
+    ];
+    let waiting = plain.each_ref().map(Workload::with_waits);
+    for workload in plain.iter().chain(&waiting) {
+        check_runs(workload, 65_536);
+        check_gates(workload, workload.state(), 50_000);
     }
 }
 
-fn any_state(rng: &mut Rng, program: &Program) -> [u32; 21] {
+fn any_state(rng: &mut Rng, program: &Program) -> [u32; STATE_SIZE] {
     let state = gate_state(rng, program.memory.len(), program.waits.len());
     state_words(&state)
 }
@@ -74,7 +85,7 @@ fn check_runs(start: &Workload, count: u32) {
     });
 }
 
-fn check_gates(start: &Workload, state: [u32; 21], clocks: u64) {
+fn check_gates(start: &Workload, state: [u32; STATE_SIZE], clocks: u64) {
     all_same(&format!("gate run, {}", start.name), |contender| {
         let (mut memory, mut state) = (start.memory.clone(), state);
         let mut result = [0; 1];
@@ -87,14 +98,14 @@ fn check_gates(start: &Workload, state: [u32; 21], clocks: u64) {
 fn check_images(words: usize) {
     let mut rng = Rng::new(words as u64);
     let memory: Vec<u32> = (0..words).map(|_| rng.word()).collect();
-    let mut machine = [0; 12];
+    let mut machine = [0; MACHINE_SIZE];
     machine[..8].fill_with(|| rng.word());
     machine[8..].fill_with(|| u32::from(rng.flag()));
     all_same(&format!("image of {words} words"), |contender| {
         let mut image = vec![7; image_size(words)];
         let mut size = [0];
         (contender.image_write)(&memory, &machine, &mut image, &mut size);
-        let mut loaded = (vec![7; words], [7; 12], [0]);
+        let mut loaded = (vec![7; words], [7; MACHINE_SIZE], [0]);
         (contender.image_read)(&image, &mut loaded.0, &mut loaded.1, &mut loaded.2);
         (image, size, loaded)
     });

@@ -35,16 +35,14 @@ pub fn file_runs(sizes: Sizes) -> (Table, Table) {
 fn measure(sizes: Sizes, ending: &str, workload: &Workload) -> (Row, Row) {
     let mut journal = vec![1; 2 * COUNT as usize];
     let journal = RefCell::new(&mut journal[..]);
-    let mut tasks: Vec<Task> = Vec::new();
-    for contender in &CONTENDERS {
+    let files = CONTENDERS.iter().map(|contender| -> Task {
         let journal = &journal;
-        tasks.push(Box::new(move || {
-            file_run(contender, workload, &mut journal.borrow_mut())
-        }));
-    }
-    for contender in &CONTENDERS {
-        tasks.push(Box::new(move || plain_run(contender, workload)));
-    }
+        Box::new(move || file_run(contender, workload, &mut journal.borrow_mut()))
+    });
+    let plain = CONTENDERS
+        .iter()
+        .map(|contender| -> Task { Box::new(move || plain_run(contender, workload)) });
+    let mut tasks: Vec<Task> = files.chain(plain).collect();
     let mut files = best(sizes.rounds, &mut tasks);
     let plain = files.split_off(CONTENDERS.len());
     let name = format!("{}, {ending}", workload.name);

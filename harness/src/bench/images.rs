@@ -4,6 +4,7 @@ use super::measure::{best, time, Task};
 use super::table::Table;
 use super::Sizes;
 use crate::baseline::{Contender, CONTENDERS};
+use fm8502::library::MACHINE_SIZE;
 use reference::image::image_size;
 use reference::rng::Rng;
 use std::cell::RefCell;
@@ -40,13 +41,13 @@ pub fn images(sizes: Sizes) -> Table {
 fn write(contender: &Contender, buffers: &mut Buffers) -> f64 {
     let Buffers { memory, image } = buffers;
     time(memory.len() as u64, || {
-        (contender.image_write)(memory, &[0; 12], image, &mut [0])
+        (contender.image_write)(memory, &[0; MACHINE_SIZE], image, &mut [0])
     })
 }
 
 fn read(contender: &Contender, buffers: &mut Buffers) -> f64 {
     let Buffers { memory, image } = buffers;
     time(memory.len() as u64, || {
-        (contender.image_read)(image, memory, &mut [0; 12], &mut [0])
+        (contender.image_read)(image, memory, &mut [0; MACHINE_SIZE], &mut [0])
     })
 }

@@ -1,21 +1,42 @@
 //! The programs that are measured.
 
+use fm8502::library::{MACHINE_SIZE, STATE_SIZE};
 use reference::rng::Rng;
 use reference::{Flags, Instruction, Operand};
 use Operand::{After, Direct, Indirect};
+
+// Operations.
+const MOVE: u8 = 0;
+const ADD_CARRY: u8 = 2;
+const ADD: u8 = 3;
+const DECREMENT: u8 = 5;
+const SUBTRACT: u8 = 7;
+const HALVE: u8 = 10;
+const XOR: u8 = 11;
+
+// Conditions of a move.
+const NOT_ZERO: u8 = 4;
+const ALWAYS: u8 = 8;
+
+// Permits for C, V, N, Z.
+const NONE: [bool; 4] = [false; 4];
+const ALL: [bool; 4] = [true; 4];
+const CARRY: [bool; 4] = [true, false, false, false];
+const ZERO: [bool; 4] = [false, false, false, true];
+const NEGATIVE_ZERO: [bool; 4] = [false, false, true, true];
 
 /// A start from which a program runs on for ever.
 #[derive(Clone)]
 pub struct Workload {
     pub name: String,
-    pub machine: [u32; 12],
+    pub machine: [u32; MACHINE_SIZE],
     pub memory: Vec<u32>,
     pub waits: Vec<u16>,
 }
 
 impl Workload {
     fn new(name: &str, registers: [u32; 8], memory: Vec<u32>) -> Workload {
-        let mut machine = [0; 12];
+        let mut machine = [0; MACHINE_SIZE];
         machine[..8].copy_from_slice(&registers);
         Workload {
             name: name.into(),
@@ -35,18 +56,12 @@ impl Workload {
     }
 
     /// The gate state between instructions, latches 0.
-    pub fn state(&self) -> [u32; 21] {
-        let mut state = [0; 21];
-        state[..12].copy_from_slice(&self.machine);
+    pub fn state(&self) -> [u32; STATE_SIZE] {
+        let mut state = [0; STATE_SIZE];
+        state[..MACHINE_SIZE].copy_from_slice(&self.machine);
         state
     }
 }
-
-const NONE: [bool; 4] = [false; 4];
-const ALL: [bool; 4] = [true; 4];
-const CARRY: [bool; 4] = [true, false, false, false];
-const ZERO: [bool; 4] = [false, false, false, true];
-const NEGATIVE_ZERO: [bool; 4] = [false, false, true, true];
 
 /// Operation `operation` on the operands, with permits for C, V, N, Z.
 fn compute(operation: u8, permit: [bool; 4], a: Operand, b: Operand) -> u32 {
@@ -64,16 +79,6 @@ fn compute(operation: u8, permit: [bool; 4], a: Operand, b: Operand) -> u32 {
 fn move_if(condition: u8, permit: [bool; 4], a: Operand, b: Operand) -> u32 {
     compute(condition, permit, a, b) | 0x8000
 }
-
-const MOVE: u8 = 0;
-const ADD: u8 = 3;
-const ADD_CARRY: u8 = 2;
-const DECREMENT: u8 = 5;
-const SUBTRACT: u8 = 7;
-const HALVE: u8 = 10;
-const XOR: u8 = 11;
-const NOT_ZERO: u8 = 4;
-const ALWAYS: u8 = 8;
 
 /// Six instructions on registers only.
 pub fn register_loop() -> Workload {

@@ -2,7 +2,7 @@
 //! states with the reference emulator's results, for the prover to compute the
 //! definitions on.
 
-use harness::words::flag_number;
+use harness::case_words::{flag_number, latch_words};
 use reference::generate::program::{any_program, Program};
 use reference::generate::state::gate_state;
 use reference::rng::Rng;
@@ -13,6 +13,14 @@ const SEED: u64 = 8502;
 const RUNS: usize = 300;
 const GATE_RUNS: usize = 300;
 
+/// What stands before the cases.
+const HEAD: &str = "-- Cases of both engines, of document 01, \"Machine and instruction word\", \"Clocks\" and \"File run and journal\", made by
+-- harness/definition_cases from a seed with the reference emulator's results: do not edit.
+use mathlib.Core.Bool.{true, false}
+use mathlib.Core.List.{List, [], _∷_}
+use Rattle.definition_cases.specs.Shape.{RunCase, GateCase, runCase, gateCase}
+";
+
 fn main() {
     let mut rng = Rng::new(SEED);
     let mut out = String::from(HEAD);
@@ -22,13 +30,6 @@ fn main() {
     list(&mut out, "gateCases", "GateCase", &gates);
     print!("{out}");
 }
-
-const HEAD: &str = "-- Cases of both engines, of document 01, \"Machine and instruction word\", \"Clocks\" and \"File run and journal\", made by
--- harness/definition_cases from a seed with the reference emulator's results: do not edit.
-use mathlib.Core.Bool.{true, false}
-use mathlib.Core.List.{List, [], _∷_}
-use Rattle.definition_cases.specs.Shape.{RunCase, GateCase, runCase, gateCase}
-";
 
 fn list(out: &mut String, name: &str, of: &str, cases: &[String]) {
     write!(out, "\nabbrev pub {name} : List {of}\n{name} =\n").unwrap();
@@ -103,19 +104,10 @@ fn gate_case(rng: &mut Rng, number: usize) -> String {
 }
 
 /// Flags, row, latches, list position and access in the order of the state.
-fn latches(s: &GateState) -> String {
-    words(&[
-        flag_number(s.flags),
-        u32::from(s.row),
-        s.instruction,
-        s.address,
-        s.a,
-        s.b,
-        s.result,
-        s.position,
-        u32::from(s.begun),
-        u32::from(s.left),
-    ])
+fn latches(state: &GateState) -> String {
+    let mut list = vec![flag_number(state.flags)];
+    list.extend(latch_words(state));
+    words(&list)
 }
 
 fn numbers(list: &[u16]) -> String {

@@ -76,6 +76,6 @@ fn check_refusals(seed: u64) {
     let misfits = settle(misfits::check(), "lengths");
     settle(limits::check(), "limits");
     println!(
-        "{refused} calls with reasons to refuse, {misfits} of a wrong length and the limits agree"
+        "{refused} calls with and without reasons to refuse, {misfits} of a wrong length and the limits agree"
     );
 }

@@ -1,7 +1,7 @@
 //! A case as the words of the program's input.
 
 use super::Case;
-use crate::words::{flag_number, state_words};
+use crate::case_words::{flag_number, latch_words};
 use reference::generate::program::Program;
 use reference::{GateState, Machine};
 
@@ -39,7 +39,7 @@ fn put_program(words: &mut Vec<u32>, program: &Program) {
 
 fn put_state(words: &mut Vec<u32>, state: &GateState) {
     put_machine(words, &state.machine());
-    words.extend(&state_words(state)[12..]);
+    words.extend(latch_words(state));
 }
 
 fn put_image(words: &mut Vec<u32>, room: usize, bytes: &[u8]) {

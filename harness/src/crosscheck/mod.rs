@@ -1,14 +1,7 @@
 //! The input of the test program `crosscheck` and what it must print.
 //!
-//! Input: little-endian words of four bytes. A case begins with its kind; 0 ends
-//! the input. Lists follow their length, wait entries one a word; flags are one
-//! number, C 8, V 4, N 2, Z 1.
-//!
-//! | Kind | Words |
-//! |---|---|
-//! | 1 program | M, memory, r0..r7, flags, W, waits, n |
-//! | 2 gate state | M, memory, W, waits, r0..r7, flags, row, instruction, address, a, b, result, position, begun, left, k |
-//! | 3 image | room in words, L, then L bytes, padded with 0 to a multiple of four |
+//! Input: crates/crosscheck/src/main.rt has its format, with the kinds of cases and
+//! the names M, n and k.
 //!
 //! Output: lines of items with single spaces; words are 8 capital hexadecimal
 //! digits, flags four digits in the order C, V, N, Z, other numbers decimal.
@@ -19,12 +12,14 @@
 //! | 1 | `gate finished row cvnz r0..r7 m0..` after total-1 (if total > 0), total, total+1 clocks from the start, latches 0 |
 //! | 1 | `file ANSWER ran pairs cvnz r0..r7 j0.. m0..` with a journal of 2n places, of which the 2*pairs filled ones |
 //! | 1 | `image size sum` of the start, or `image refused N` |
-//! | 2 | `state ANSWER finished cvnz r0..r7 row instruction address a b result position begun left m0..` after k clocks |
+//! | 2 | `state ANSWER finished cvnz r0..r7 row instruction address a b result position begun left m0..` after a run of k clocks |
+//! | 2 | `lent ..` with the same items, after k single clocks, each on the state and memory that the last one left |
 //! | 3 | `read M cvnz r0..r7 m0..` or `read refused N` |
 //!
 //! ANSWER is `finished`, `outside`, `undone`, `ran` or `refused N`; a refused run
 //! shows the machine or state and the memory as they were, and counts of 0. The
-//! sum of an image is s = (257 s + byte) mod 65,521 over its bytes, from 0.
+//! answer of `lent` is the last clock's, or `ran` if k is 0. The sum of an image is
+//! s = (257 s + byte) mod 65,521 over its bytes, from 0.
 
 pub mod cases;
 mod directed;

@@ -1,7 +1,7 @@
 //! What the program must print for a case, by the reference emulator.
 
 use super::Case;
-use crate::text::{flag_digits, hex_words};
+use crate::text::hex_words;
 use reference::generate::program::Program;
 use reference::{file_run, gate_clock, gate_run, image, run};
 use reference::{Answer, FileAnswer, GateState, Machine, Refusal};
@@ -29,7 +29,7 @@ fn refused(refusal: Refusal) -> String {
 
 fn machine_text(machine: &Machine) -> String {
     let registers = hex_words(&machine.registers);
-    format!("{}{registers}", flag_digits(machine.flags))
+    format!("{}{registers}", machine.flags.digits())
 }
 
 fn program_lines(program: &Program) -> String {

@@ -3,7 +3,7 @@
 use super::lent::guard;
 use super::outcome::Outcome;
 use crate::words::{machine_words, state_words};
-use fm8502::library::{DONE, STOPPED};
+use fm8502::library::{DONE, MACHINE_SIZE, STOPPED};
 use reference::{image, Answer, FileAnswer, GateState, Machine, Refusal};
 
 fn code(answer: Result<(), Refusal>) -> u32 {
@@ -65,7 +65,7 @@ pub fn clock(memory: &[u32], waits: &[u16], state: &mut GateState) -> Outcome {
 }
 
 pub fn image_read(bytes: &[u8], memory: &[u32]) -> Outcome {
-    let mut outcome = Outcome::as_lent(memory, &[guard(); 12], 1);
+    let mut outcome = Outcome::as_lent(memory, &[guard(); MACHINE_SIZE], 1);
     let result = image::read(bytes, &mut outcome.memory);
     outcome.code = code(result.answer);
     if outcome.carried_out() {

@@ -1,7 +1,7 @@
 //! The longest memory, and one word more.
 
 use super::{expected, proved, Check};
-use fm8502::library;
+use fm8502::library::{self, MACHINE_SIZE, STATE_SIZE};
 use reference::image::image_size;
 use reference::refusal::MOST_WORDS;
 use reference::Machine;
@@ -47,7 +47,7 @@ fn check_longest() -> Check {
 
 fn check_too_long() -> Check {
     let mut memory = vec![0; MOST_WORDS + 1];
-    let (mut machine, mut state) = ([0; 12], [0; 21]);
+    let (mut machine, mut state) = ([0; MACHINE_SIZE], [0; STATE_SIZE]);
     let (mut two, mut one) = ([7; 2], [7; 1]);
     let codes = [
         library::run(&mut memory, &[0; 65_537], &mut machine, 9, &mut two),
@@ -57,8 +57,8 @@ fn check_too_long() -> Check {
         library::image_write(&memory, &machine, &mut [], &mut one),
     ];
     let unchanged = memory.iter().all(|&word| word == 0)
-        && machine == [0; 12]
-        && state == [0; 21]
+        && machine == [0; MACHINE_SIZE]
+        && state == [0; STATE_SIZE]
         && (two, one) == ([7; 2], [7; 1]);
     if codes == [TOO_MANY_WORDS; 5] && unchanged {
         return Ok(());

@@ -2,10 +2,33 @@
 //! the library directly can lend.
 
 use super::Check;
-use fm8502::library;
+use fm8502::library::{self, MACHINE_SIZE, STATE_SIZE};
 
-/// Whether a call was answered so, and nothing lent has changed.
-fn misfit(call: &str, code: u32, unchanged: bool) -> Check {
+/// A machine's words and its result's places, of which 2 would fit.
+const MACHINES: [(usize, usize); 8] = [
+    (0, 2),
+    (1, 2),
+    (MACHINE_SIZE - 1, 2),
+    (MACHINE_SIZE + 1, 2),
+    (STATE_SIZE, 2),
+    (MACHINE_SIZE, 0),
+    (MACHINE_SIZE, 1),
+    (MACHINE_SIZE, 3),
+];
+
+/// A state's words and its result's places, of which 1 would fit.
+const STATES: [(usize, usize); 6] = [
+    (0, 1),
+    (MACHINE_SIZE, 1),
+    (STATE_SIZE - 1, 1),
+    (STATE_SIZE + 1, 1),
+    (STATE_SIZE, 0),
+    (STATE_SIZE, 2),
+];
+
+/// Counts a call, which must be answered so and leave everything lent unchanged.
+fn misfit(calls: &mut usize, call: &str, code: u32, unchanged: bool) -> Check {
+    *calls += 1;
     if code == library::MISFIT && unchanged {
         return Ok(());
     }
@@ -16,20 +39,28 @@ fn misfit(call: &str, code: u32, unchanged: bool) -> Check {
 
 /// Returns how many calls were made.
 pub fn check() -> Result<usize, String> {
-    for length in [0, 1, 11, 13, 21] {
-        check_machine(length, 2)?;
+    let mut calls = 0;
+    check_machines(&mut calls)?;
+    check_states(&mut calls)?;
+    Ok(calls)
+}
+
+fn check_machines(calls: &mut usize) -> Check {
+    for (length, places) in MACHINES {
+        check_machine(calls, length, places)?;
     }
-    for places in [0, 1, 3] {
-        check_machine(12, places)?;
+    Ok(())
+}
+
+fn check_states(calls: &mut usize) -> Check {
+    for (length, places) in STATES {
+        check_state(calls, length, places)?;
     }
-    for (length, places) in [(0, 1), (12, 1), (20, 1), (22, 1), (21, 0), (21, 2)] {
-        check_state(length, places)?;
-    }
-    Ok(8 * 4 + 6 * 2)
+    Ok(())
 }
 
 /// A machine of `length` words and `places` result places (one less for images).
-fn check_machine(length: usize, places: usize) -> Check {
+fn check_machine(calls: &mut usize, length: usize, places: usize) -> Check {
     let mut memory = [7; 4];
     let mut journal = [7; 8];
     let mut machine = vec![7; length];
@@ -39,23 +70,23 @@ fn check_machine(length: usize, places: usize) -> Check {
 
     let code = library::run(&mut memory, &[], &mut machine, 1, &mut result);
     let now = (memory, journal, machine.clone(), result.clone());
-    misfit("run", code, now == lent)?;
+    misfit(calls, "run", code, now == lent)?;
     let code = library::file_run(&mut memory, &mut journal, &mut machine, 1, &mut result);
     let now = (memory, journal, machine.clone(), result.clone());
-    misfit("file run", code, now == lent)?;
+    misfit(calls, "file run", code, now == lent)?;
 
     result.pop();
     let lent = (memory, machine.clone(), result.clone());
     let code = library::image_write(&memory, &machine, &mut image, &mut result);
     let now = (memory, machine.clone(), result.clone());
-    misfit("image write", code, now == lent && image == [7; 128])?;
+    misfit(calls, "image write", code, now == lent && image == [7; 128])?;
     let code = library::image_read(&image, &mut memory, &mut machine, &mut result);
     let now = (memory, machine.clone(), result.clone());
-    misfit("image read", code, now == lent)
+    misfit(calls, "image read", code, now == lent)
 }
 
 /// A state of `length` words and `places` result places.
-fn check_state(length: usize, places: usize) -> Check {
+fn check_state(calls: &mut usize, length: usize, places: usize) -> Check {
     let mut memory = [7; 4];
     let mut state = vec![0; length];
     let mut result = vec![7; places];
@@ -63,8 +94,8 @@ fn check_state(length: usize, places: usize) -> Check {
 
     let code = library::gate_run(&mut memory, &[], &mut state, 1, &mut result);
     let now = (memory, state.clone(), result.clone());
-    misfit("gate run", code, now == lent)?;
+    misfit(calls, "gate run", code, now == lent)?;
     let code = library::clock(&mut memory, &[], &mut state, &mut result);
     let now = (memory, state, result);
-    misfit("clock", code, now == lent)
+    misfit(calls, "clock", code, now == lent)
 }

@@ -3,7 +3,7 @@
 use super::lent::{guard, Lent};
 use super::outcome::Outcome;
 use crate::words::{machine_words, state_words};
-use fm8502::library;
+use fm8502::library::{self, MACHINE_SIZE};
 use reference::{GateState, Machine};
 
 /// Everything that one call is lent.
@@ -100,7 +100,7 @@ pub fn clock(memory: &[u32], waits: &[u16], state: &[u32]) -> Outcome {
 }
 
 pub fn image_read(image: &[u8], memory: &[u32]) -> Outcome {
-    let mut lent = Buffers::new(memory, &[guard(); 12], 1);
+    let mut lent = Buffers::new(memory, &[guard(); MACHINE_SIZE], 1);
     let code = library::image_read(
         image,
         lent.memory.slice(),

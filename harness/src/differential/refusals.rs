@@ -1,6 +1,7 @@
 //! Calls that are refused for one reason or for several: which number comes first.
 
 use super::{expected, proved, run_case, same, Check};
+use fm8502::library::STATE_SIZE;
 use reference::generate::program::{program, Kind};
 use reference::generate::state::{gate_state, refused_gate_state};
 use reference::image::image_size;
@@ -9,6 +10,11 @@ use reference::{GateState, Machine};
 
 /// No entries, and as many as the list may have, one more, and more.
 const LIST_LENGTHS: [usize; 4] = [0, 65_536, 65_537, 70_000];
+
+/// Places in a state's words.
+const ROW: usize = 12;
+const BEGUN: usize = 19;
+const LEFT: usize = 20;
 
 /// Every combination of what can be wrong with a call, but for a memory that is
 /// too long. Returns how many calls were made.
@@ -65,8 +71,8 @@ fn check_too_wide(memory: &[u32], waits: &[u16]) -> Result<usize, String> {
     // Row, begun, clocks left.
     let states = [(256, 0, 0), (0, 0, 65_536), (1, 1, 65_536)];
     for (row, begun, left) in states {
-        let mut words = [0; 21];
-        (words[12], words[19], words[20]) = (row, begun, left);
+        let mut words = [0; STATE_SIZE];
+        (words[ROW], words[BEGUN], words[LEFT]) = (row, begun, left);
         expected.words = words.to_vec();
         for proved in [
             proved::gate_run_on(memory, waits, &words, 1),

@@ -1,8 +1,7 @@
 //! Reads an image from standard input and prints its ledger.
 
-use std::io::{self, Read, Write};
-
 use reference::ledger::{ledger, MOST_INPUT};
+use std::io::{self, Read, Write};
 
 fn main() -> io::Result<()> {
     let mut image = Vec::new();

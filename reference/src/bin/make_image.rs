@@ -1,12 +1,11 @@
 //! Makes an image out of hexadecimal words, registers and flags.
 
-use std::fs;
-use std::io::{self, IsTerminal, Write};
-use std::process::ExitCode;
-
 use reference::image;
 use reference::refusal::MOST_WORDS;
 use reference::{Flags, Machine};
+use std::fs;
+use std::io::{self, IsTerminal, Write};
+use std::process::ExitCode;
 
 const HELP: &str = "\
 Makes an image of the FM8502 recorder card.

@@ -1,7 +1,7 @@
 //! Images, most of them damaged.
 
 use super::flags;
-use crate::image;
+use crate::image::{self, WORDS_PER_FIELD};
 use crate::machine::Machine;
 use crate::rng::Rng;
 
@@ -48,7 +48,7 @@ const VERSION_AT: usize = 3;
 const FLAGS_AT: usize = 42;
 const COUNT_AT: usize = 49;
 const FIRST_WORDS_FIELD_AT: usize = 53;
-const WORDS_FIELD_SIZE: usize = 3 + 4 * 1_024;
+const WORDS_FIELD_SIZE: usize = 3 + 4 * WORDS_PER_FIELD;
 
 pub fn any_image(rng: &mut Rng) -> ImageCase {
     let damage = rng.pick(&DAMAGES);
@@ -127,7 +127,7 @@ fn change_count(rng: &mut Rng, case: &mut ImageCase, words: u32) {
 
 /// The offset of some field's header.
 fn header(rng: &mut Rng, words: usize) -> usize {
-    let fields = words.div_ceil(1_024);
+    let fields = words.div_ceil(WORDS_PER_FIELD);
     let end = image::image_size(words) - 3;
     match rng.below(6) {
         0 => 0,

@@ -7,8 +7,8 @@ use Rattle.gate_machine.proofs.run.Tie as tie
 gate-verdict-requires : tie.Need-gate-verdict-requires
 gate-verdict-requires c κs = search needs
 
-enum-known-verdict : tie.Need-enum-known-verdict
-enum-known-verdict c = search needs
+enum-known-why : tie.Need-enum-known-why
+enum-known-why c = search needs
 
 enum-told : tie.Need-enum-told
 enum-told c = search needs
@@ -20,7 +20,7 @@ same-length : tie.Need-same-length
 same-length c = search needs
 
 returns : tie.Need-returns
-returns c = run-refused (c .before .before .before .gate-verdict .ensures) (c .before .verdict .given .1)
+returns c = run-refused (c .before .before .before .gate-verdict .ensures) (c .before .why .given .1)
 
 same-length-2 : tie.Need-same-length-2
 same-length-2 c = search needs
@@ -35,7 +35,7 @@ run-spec =
     tie.close
     (tie.spec
     gate-verdict-requires
-    enum-known-verdict
+    enum-known-why
     enum-told
     run-clocks-requires
     same-length

@@ -17,7 +17,9 @@ same-length-2 : tie.Need-same-length-2
 same-length-2 c = search needs
 
 returns : tie.Need-returns
-returns c = ends-written _ _ _ _ _ _ _ (c .before .before .before .before .before .before .before .before .if1 .taken) _ _ (c .before .before .before .before .before .before .put-machine .ensures) (c .before .before .put-two .ensures)
+returns c =
+    let put = c .before .before .before .before .before .before in
+    ends-written _ _ _ _ _ _ _ (put .before .before .if1 .taken) _ _ (put .put-machine .ensures) (c .before .before .put-two .ensures)
 
 returns-2 : tie.Need-returns-2
 returns-2 c = ends-unwritten _ _ _ _ _ _ _ (c .if1 .left) _ refl

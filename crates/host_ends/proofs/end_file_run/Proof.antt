@@ -18,7 +18,9 @@ same-length-2 : tie.Need-same-length-2
 same-length-2 c = search needs
 
 returns : tie.Need-returns
-returns c = rw (c .before .before .before .before .before .before .before .before .file-code .ensures) at (c .before .before .before .before .end-counted .ensures)
+returns c =
+    let ended = c .before .before .before .before in
+    rw (ended .before .before .before .before .file-code .ensures) at (ended .end-counted .ensures)
 
 pub end-file-run-spec : {M : Type 1} → statement M
 end-file-run-spec =

@@ -30,7 +30,9 @@ same-length-2 : tie.Need-same-length-2
 same-length-2 c = search needs
 
 returns-2 : tie.Need-returns-2
-returns-2 c = gate-done _ _ _ _ _ (c .before .before .before .before .before .before .before .before .enum-told .given .1) (c .before .before .before .before .before .before .put-state .ensures) (c .before .before .put-one .ensures)
+returns-2 c =
+    let put = c .before .before .before .before .before .before in
+    gate-done _ _ _ _ _ (put .before .before .enum-told .given .1) (put .put-state .ensures) (c .before .before .put-one .ensures)
 
 pub end-gate-run-spec : {M : Type 1} → statement M
 end-gate-run-spec =

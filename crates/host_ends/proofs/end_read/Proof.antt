@@ -33,7 +33,9 @@ same-length-2 : tie.Need-same-length-2
 same-length-2 c = search needs
 
 returns-2 : tie.Need-returns-2
-returns-2 c = read-done _ _ _ _ _ _ (c .before .before .before .before .before .before .before .before .before .answer2 .given .1) (c .before .before .before .before .before .before .put-machine .ensures) (c .before .before .put-one .ensures)
+returns-2 c =
+    let put = c .before .before .before .before .before .before in
+    read-done _ _ _ _ _ _ (put .before .before .before .answer2 .given .1) (put .put-machine .ensures) (c .before .before .put-one .ensures)
 
 pub end-read-spec : {M : Type 1} → statement M
 end-read-spec =

@@ -39,16 +39,18 @@ machine-at-requires c κs =
 
 returns : tie.Need-returns
 returns c =
-    let a = c .before .before .before .before .before .before .before .args in
-    read-refused (a .bytes .now) (a .memory .now) _ _ (sym (c .before .before .why .given .1) ∙ c .before .before .before .before .image-verdict .ensures) (c .cleared-machine .ensures)
+    let judged = c .before .before .before .before in
+    let a = judged .before .before .before .args in
+    read-refused (a .bytes .now) (a .memory .now) _ _ (sym (c .before .before .why .given .1) ∙ judged .image-verdict .ensures) (c .cleared-machine .ensures)
 
 same-length : tie.Need-same-length
 same-length c = search needs
 
 returns-2 : tie.Need-returns-2
 returns-2 c =
-    let a = c .before .before .before .before .before .before .before .before .before .before .before .args in
-    read-carried (a .bytes .now) (a .memory .now) _ _ _ (sym (c .before .before .before .before .before .before .enum-told .given .1) ∙ c .before .before .before .before .before .before .before .before .image-verdict .ensures)
+    let told = c .before .before .before .before .before .before in
+    let a = told .before .before .before .before .before .args in
+    read-carried (a .bytes .now) (a .memory .now) _ _ _ (sym (told .enum-told .given .1) ∙ told .before .before .image-verdict .ensures)
     (c .before .before .before .before .before .word-count .ensures) (c .machine-at .ensures) (c .before .before .before .load-memory .ensures)
 
 pub read-spec : {M : Type 1} → statement M

@@ -34,8 +34,9 @@ returns c =
 
 put-image-requires : tie.Need-put-image-requires
 put-image-requires c κs =
-    let fits = sym (c .before .before .before .before .before .memory-fits .ensures) ∙ c .before .before .before .enum-told .given .1 in
-    (memory-bounds (c .before .before .before .before .before .before .before .before .args .memory .now) fits .1, omega (arith, c .before .before .image-size .ensures, c .before .if1 .left))
+    let judged = c .before .before .before .before .before in
+    let fits = sym (judged .memory-fits .ensures) ∙ c .before .before .before .enum-told .given .1 in
+    (memory-bounds (judged .before .before .before .args .memory .now) fits .1, omega (arith, c .before .before .image-size .ensures, c .before .if1 .left))
 
 returns-2 : tie.Need-returns-2
 returns-2 c =
@@ -47,10 +48,11 @@ same-length c = search needs
 
 returns-3 : tie.Need-returns-3
 returns-3 c =
-    let start = c .before .before .before .before .before .before .before .before .before .before .before in
+    let told = c .before .before .before .before .before .before in
+    let start = told .before .before .before .before .before in
     let a = start .args in
     let n = c .before .before .before .before .before .image-size .ensures in
-    write-carried (a .memory .now) (a .machine) (a .out .now) (sym (c .before .before .before .before .before .before .enum-told .given .1) ∙ c .before .before .before .before .before .before .before .before .memory-fits .ensures) _ _
+    write-carried (a .memory .now) (a .machine) (a .out .now) (sym (told .enum-told .given .1) ∙ told .before .before .memory-fits .ensures) _ _
     (omega (arith, c .before .before .before .before .if1 .left, n, image-length start)) (c .before .before .put-image .ensures) (n ∙ sym (image-length start))
 
 pub write-spec : {M : Type 1} → statement M

@@ -2,6 +2,7 @@ use Prim.Native.Nat.{_≤_}
 use mathlib.Core.Path.{_≡_, refl, _∙_}
 use native.Mathlib.Omega.{arith}
 use lib.ListN.{length}
+use borrow.Author.Needs.{needs}
 use Rattle.journal.specs.Undo.{undone}
 use Rattle.journal.proofs.Journals.{undone-none, undone-more}
 use Rattle.journal.proofs.undo.Statement.{statement}
@@ -9,20 +10,19 @@ use Rattle.journal.proofs.undo.Tie as tie
 
 abbrev Inv-loop : tie.InvT-loop
 Inv-loop memory₀ journal pairs k₀ memory k =
-    (k ≤ pairs) × ((length memory ≡ length memory₀) × (undone k journal memory ≡ undone pairs journal memory₀))
+    (k ≤ pairs) × (length memory ≡ length memory₀) × (undone k journal memory ≡ undone pairs journal memory₀)
 
 abbrev μ-loop : tie.MeasureT-loop
-μ-loop memory₀ journal pairs k₀ memory k =
-    k
+μ-loop memory₀ journal pairs k₀ memory k = k
 
 loop-holds : tie.Need-loop-holds Inv-loop μ-loop
-loop-holds c = (omega arith, (refl, refl))
+loop-holds c = (omega arith, refl, refl)
 
 sub-k : tie.Need-sub-k Inv-loop μ-loop
 sub-k c = omega arith
 
 wide-requires : tie.Need-wide-requires Inv-loop μ-loop
-wide-requires c κs = tt
+wide-requires c κs = search needs
 
 mul-put-back : tie.Need-mul-put-back Inv-loop μ-loop
 mul-put-back c = omega (arith, c .wide .ensures, c .before .before .before .before .before .before .fits .pairs)
@@ -38,15 +38,15 @@ loop-again c =
     let put = c .before .before .put-back in
     let l = c .before .before .before .before .before .before in
     let more = undone-more (l .loop .k) (l .before .before .before .args .journal .now) (l .loop .memory) (omega arith) in
-    (omega arith, (put .kept .0 ∙ l .loop .inv .1 .0, rw (put .ensures, c .before .before .before .wide .ensures) more ∙ l .loop .inv .1 .1))
+    (omega arith, put .kept .0 ∙ l .loop .inv .1, rw (put .ensures, c .before .before .before .wide .ensures) more ∙ l .loop .inv .2)
 
 same-length : tie.Need-same-length Inv-loop μ-loop
-same-length c = c .before .loop .inv .1 .0
+same-length c = c .before .loop .inv .1
 
 returns : tie.Need-returns Inv-loop μ-loop
 returns c =
     let l = c .before in
-    undone-none (l .loop .k) (l .before .before .before .args .journal .now) (l .loop .memory) (c .loop-test .left) ∙ l .loop .inv .1 .1
+    undone-none (l .loop .k) (l .before .before .before .args .journal .now) (l .loop .memory) (c .loop-test .left) ∙ l .loop .inv .2
 
 pub undo-spec : {M : Type 1} → statement M
 undo-spec =

@@ -1,7 +1,7 @@
 use mathlib.Core.Path.{sym}
 use lib.Seq.{length-take-le}
 use borrow.Author.Needs.{needs}
-use Rattle.ledger_text.proofs.Answers.{report-no-room, within, runs, report-refused, report-carried}
+use Rattle.ledger_text.proofs.Answers.{report-no-room, within, words-fit, report-refused, report-carried}
 use Rattle.ledger_text.proofs.report.Statement.{statement}
 use Rattle.ledger_text.proofs.report.Tie as tie
 
@@ -36,7 +36,7 @@ slice-aggregate-put-run c =
 put-run-requires : tie.Need-put-run-requires
 put-run-requires c κs =
     let read = c .before .before .before .before .before .before .before .before .read in
-    runs (read .ensures) (c .before .before .before .before .answer2 .given .1) (read .kept .1 .0)
+    words-fit (read .ensures) (c .before .before .before .before .answer2 .given .1) (read .kept .1 .0)
 
 same-length : tie.Need-same-length
 same-length c = search needs

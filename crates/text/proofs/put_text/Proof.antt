@@ -6,7 +6,7 @@ use native.Mathlib.Numerals.{add-one}
 use native.Mathlib.Omega.{arith}
 use lib.ListN.{length, getD, drop, drop-of-length-le}
 use lib.Seq.{sets, drop-cons}
-use denote.Ref.{now}
+use borrow.Author.Needs.{needs}
 use Rattle.model.proofs.Stores.{sets-out, store-step}
 use Rattle.text.proofs.put_text.Statement.{statement}
 use Rattle.text.proofs.put_text.Tie as tie
@@ -27,7 +27,7 @@ shared-slice-read-put-byte : tie.Need-shared-slice-read-put-byte Inv-loop μ-loo
 shared-slice-read-put-byte c = omega arith
 
 put-byte-requires : tie.Need-put-byte-requires Inv-loop μ-loop
-put-byte-requires c κs = tt
+put-byte-requires c κs = search needs
 
 add-i : tie.Need-add-i Inv-loop μ-loop
 add-i c = omega arith
@@ -39,7 +39,7 @@ loop-again : tie.Need-loop-again Inv-loop μ-loop
 loop-again c =
     let at = c .before .before .before .before .before .before .loop in
     let a = c .before .before .before .before .before .before .before .before .before .before .args in
-    let text : List ℕ = now (a .text) in
+    let text : List ℕ = a .text .now in
     let i : ℕ = at .i in
     let byte : ℕ = getD text i 0 in
     let rest : drop i text ≡ byte ∷ drop (i + 1) text =
@@ -57,12 +57,12 @@ returns : tie.Need-returns Inv-loop μ-loop
 returns c =
     let at = c .before .loop in
     let a = c .before .before .before .before .before .args in
-    record { buffer = rw (drop-of-length-le (now (a .text)) {i = at .i} (c .loop-test .left)) at (at .inv .2); size = refl }
+    record { buffer = rw (drop-of-length-le (a .text .now) {i = at .i} (c .loop-test .left)) at (at .inv .2); size = refl }
 
 returns-2 : tie.Need-returns-2 Inv-loop μ-loop
 returns-2 c =
     let args = c .before .before .before .args in
-    record { buffer = sym (sets-out (now (args .out)) (args .at) (now (args .text)) (c .if1 .left)); size = refl }
+    record { buffer = sym (sets-out (args .out .now) (args .at) (args .text .now) (c .if1 .left)); size = refl }
 
 pub put-text-spec : {M : Type 1} → statement M
 put-text-spec =

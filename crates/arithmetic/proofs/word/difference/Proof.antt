@@ -19,18 +19,14 @@ wrapping-sub-u32-requires-2 c κs = search needs
 overflow-of-requires : tie.Need-overflow-of-requires
 overflow-of-requires c κs = search needs
 
-answer-requires : tie.Need-answer-requires
-answer-requires c κs = search needs
-
 returns : tie.Need-returns
 returns c =
-    let r = c .before .before .before .before .args in
-    let low : ℕ = c .before .before .before .wrapping-sub-u32 .result in
-    let s : ℕ = c .before .before .wrapping-sub-u322 .result in
-    c .answer .ensures
-    ∙ same-answer 31 refl refl (c .before .overflow-of .ensures)
+    let r = c .before .before .before .args in
+    let low : ℕ = c .before .before .wrapping-sub-u32 .result in
+    let s : ℕ = c .before .wrapping-sub-u322 .result in
+    same-answer 31 refl refl (c .overflow-of .ensures)
     ∙ difference-is 31 (r .x) (r .y) s (r .c) _ (omega arith) (omega arith) (omega arith)
-    (wrapped-difference (r .x) (r .y) low s (omega arith) (omega arith) (r .c) (omega arith) (omega arith) (c .before .before .before .wrapping-sub-u32 .ensures) (c .before .before .wrapping-sub-u322 .ensures))
+    (wrapped-difference (r .x) (r .y) low s (omega arith) (omega arith) (r .c) (omega arith) (omega arith) (c .before .before .wrapping-sub-u32 .ensures) (c .before .wrapping-sub-u322 .ensures))
 
 pub difference-spec : {M : Type 1} → statement M
 difference-spec =
@@ -40,5 +36,4 @@ difference-spec =
     cast-wrapping-sub-u32
     wrapping-sub-u32-requires-2
     overflow-of-requires
-    answer-requires
     returns)

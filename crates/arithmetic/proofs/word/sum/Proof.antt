@@ -19,18 +19,14 @@ wrapping-add-u32-requires-2 c κs = search needs
 overflow-of-requires : tie.Need-overflow-of-requires
 overflow-of-requires c κs = search needs
 
-answer-requires : tie.Need-answer-requires
-answer-requires c κs = search needs
-
 returns : tie.Need-returns
 returns c =
-    let r = c .before .before .before .before .args in
-    let low : ℕ = c .before .before .before .wrapping-add-u32 .result in
-    let s : ℕ = c .before .before .wrapping-add-u322 .result in
-    c .answer .ensures
-    ∙ same-answer 31 refl refl (c .before .overflow-of .ensures)
+    let r = c .before .before .before .args in
+    let low : ℕ = c .before .before .wrapping-add-u32 .result in
+    let s : ℕ = c .before .wrapping-add-u322 .result in
+    same-answer 31 refl refl (c .overflow-of .ensures)
     ∙ sum-is 31 (r .x) (r .y) s (r .c) _ (omega arith) (omega arith) (omega arith)
-    (wrapped-sum (r .x) (r .y) low s (omega arith) (omega arith) (r .c) (c .before .before .before .wrapping-add-u32 .ensures) (c .before .before .wrapping-add-u322 .ensures))
+    (wrapped-sum (r .x) (r .y) low s (omega arith) (omega arith) (r .c) (c .before .before .wrapping-add-u32 .ensures) (c .before .wrapping-add-u322 .ensures))
 
 pub sum-spec : {M : Type 1} → statement M
 sum-spec =
@@ -40,5 +36,4 @@ sum-spec =
     cast-wrapping-add-u32
     wrapping-add-u32-requires-2
     overflow-of-requires
-    answer-requires
     returns)

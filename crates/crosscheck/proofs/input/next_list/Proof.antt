@@ -12,13 +12,13 @@ abbrev μ-loop : tie.MeasureT-loop
 μ-loop words₀ waits₀ count i₀ words waits i = count - i
 
 next-number-requires : tie.Need-next-number-requires Inv-loop μ-loop
-next-number-requires c κs = tt
+next-number-requires c κs = search needs
 
 loop-holds : tie.Need-loop-holds Inv-loop μ-loop
 loop-holds c = search needs
 
 next-word-requires : tie.Need-next-word-requires Inv-loop μ-loop
-next-word-requires c κs = tt
+next-word-requires c κs = search needs
 
 mul-words : tie.Need-mul-words Inv-loop μ-loop
 mul-words c = search needs
@@ -27,7 +27,7 @@ array-write-words : tie.Need-array-write-words Inv-loop μ-loop
 array-write-words c = search needs
 
 half-requires : tie.Need-half-requires Inv-loop μ-loop
-half-requires c κs = tt
+half-requires c κs = search needs
 
 mul-waits : tie.Need-mul-waits Inv-loop μ-loop
 mul-waits c = search needs

@@ -1,10 +1,10 @@
 -- A walk of its MIR, by hand. The record in the local `_4` is lent for a lifetime that is made for the call, and is had back at the last
 -- value that `clock_lent` says. The borrow of the memory is given up for good, and the borrow of the waits is copied.
 -- All that the proof knows of `clock_lent` is that it meets its contract, and all that it knows of the records is their laws: no field is
--- named, but those of `Clocked`.
+-- named, but those of `GateResult`.
 use Prim.Native.Nat.{ℕ}
 use mathlib.Core.Path.{_≡_, refl, ap}
-use mathlib.Core.List.{[], _∷_, List}
+use mathlib.Core.List.{List, [], _∷_}
 use lib.ListN.{length}
 use denote.RattleType.{owns}
 use denote.Memory.{mem, cellAt, partOf}
@@ -29,17 +29,17 @@ use denote.Triple.Statement.{Contract, Triple}
 use Rattle.model.specs.declared.GateState.{GateState}
 use Rattle.model.proofs.GateState as S
 use Rattle.model.proofs.GateState.Laws as S′
-use Rattle.gate_machine.specs.declared.ClockResult.{ClockResult}
+use Rattle.gate_machine.specs.declared.GateOutcome.{GateOutcome}
+use Rattle.gate_machine.specs.declared.GateResult.{GateResult}
 use Rattle.gate_machine.specs.Calls.{LentClock}
-use Rattle.gate_machine.proofs.ClockResult as K
-use Rattle.gate_machine.proofs.ClockResult.Laws as K′
+use Rattle.gate_machine.proofs.GateOutcome as K
+use Rattle.gate_machine.proofs.GateOutcome.Laws as K′
+use Rattle.gate_machine.proofs.GateResult as T
+use Rattle.gate_machine.proofs.GateResult.Laws as T′
 use Rattle.gate_machine.proofs.clock_lent as clock-lent
 use Rattle.gate_machine.proofs.clock_lent.Symbol as clock-lent-def
 use Rattle.gate_machine.proofs.clock_lent.Symbol.{name as #gate-machine·clock-lent}
 use Rattle.gate_machine.proofs.clock_lent.Met as clock-lent-thm
-use Rattle.crosscheck.specs.declared.lending.Clocked.{Clocked}
-use Rattle.crosscheck.proofs.lending.Clocked as T
-use Rattle.crosscheck.proofs.lending.Clocked.Laws as T′
 use Rattle.crosscheck.proofs.lending.clock_once.Key.{name as #crosscheck·clock-once}
 use Rattle.crosscheck.proofs.lending.clock_once as clock-once
 use Rattle.crosscheck.proofs.lending.clock_once.Code as code
@@ -81,13 +81,13 @@ Lent 𝓤 H A mem run = tripleOf 𝓤 H A clock-lent.signature (clock-lent.spec 
 abbrev state-val : GateState → Val
 state-val h = LL.val S.the-type S′.the-laws h
 
-abbrev clocked : ClockResult → GateState → Clocked
+abbrev clocked : GateOutcome → GateState → GateResult
 clocked t x = record { outcome = t; state = x }
 
-abbrev clocked-val : ClockResult → GateState → Val
+abbrev clocked-val : GateOutcome → GateState → Val
 clocked-val t x = LL.val T.the-type T′.the-laws (clocked t x)
 
-is-clocked : (t : ClockResult) (v : Val) (x : GateState) → Is K.the-row t (v ∷ []) → Is S.the-row x (state-val x ∷ [])
+is-clocked : (t : GateOutcome) (v : Val) (x : GateState) → Is K.the-row t (v ∷ []) → Is S.the-row x (state-val x ∷ [])
     → Is T.the-row (clocked t x) (clocked-val t x ∷ [])
 is-clocked t v x k s =
     LL.owes T.the-type T′.the-laws (clocked t x)
@@ -172,10 +172,10 @@ module _ {M : Type 1} (𝓤 : URA M) (H : Heap 𝓤) (A : Atoms 𝓤) (W : Given
       join ! $ frame ! $ done !
 
   -- what `clock_lent` ensures of its result, of the memory's last list and of the state's last value
-  abbrev Said : ClockResult → List ℕ → GateState → Type 0
+  abbrev Said : GateOutcome → List ℕ → GateState → Type 0
   Said t zs x = LentClock (m .now) (w .now) h zs x t
 
-  exits : (t : ClockResult) (v : Val) (x : GateState) → Is K.the-row t (v ∷ []) → Is S.the-row x (state-val x ∷ []) → (zs : List ℕ)
+  exits : (t : GateOutcome) (v : Val) (x : GateState) → Is K.the-row t (v ∷ []) → Is S.the-row x (state-val x ∷ []) → (zs : List ℕ)
       → Said t zs x → length zs ≡ length (m .now)
       → ent 𝓤 (⋆ 𝓤 H A (tokens ∷ ‵ (finally u32 (m .name) zs) ∷ ‵ OwnW ∷ [])) (Post (clocked-val t x))
   exits t v x k s zs e l =
@@ -229,7 +229,7 @@ module _ {M : Type 1} (𝓤 : URA M) (H : Heap 𝓤) (A : Atoms 𝓤) (W : Given
         calls-at ! fm (Lent 𝓤 H A at-mem run) known (to-lent l₄ ν γ)
         (and-then ! (load ! (from ! (stop !)) (look ! 7 refl)) (and-then ! (load ! (from ! (stop !)) (look ! 16 refl))
         (and-then ! (load ! (from ! (stop !)) (look ! 5 refl)) (no-more !)))) (λ v.
-        use1 W (later (some (λ (t : ClockResult). (lent-tokens ν ⊛ ‵ (K.the-row .own t (v ∷ []))) ⊛
+        use1 W (later (some (λ (t : GateOutcome). (lent-tokens ν ⊛ ‵ (K.the-row .own t (v ∷ []))) ⊛
         raw (ensured 𝓤 H A clock-lent.ended (clock-lent.clauses 𝓤 H A at-mem run) (lent-lfts ν) (lent-args l₄ γ) tt t))))
         (id⊢ 𝓤 _) $ await ! tt $ pick ! (λ t.
         -- what `clock_lent` ensures, at some last list and record

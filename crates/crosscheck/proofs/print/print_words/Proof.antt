@@ -10,7 +10,7 @@ abbrev μ-loop : tie.MeasureT-loop
 μ-loop words count end i₀ i = end - i
 
 least-requires : tie.Need-least-requires Inv-loop μ-loop
-least-requires c κs = tt
+least-requires c κs = search needs
 
 loop-holds : tie.Need-loop-holds Inv-loop μ-loop
 loop-holds c = search needs
@@ -22,7 +22,7 @@ shared-slice-read-print-word : tie.Need-shared-slice-read-print-word Inv-loop μ
 shared-slice-read-print-word c = search needs
 
 print-word-requires : tie.Need-print-word-requires Inv-loop μ-loop
-print-word-requires c κs = tt
+print-word-requires c κs = search needs
 
 add-i : tie.Need-add-i Inv-loop μ-loop
 add-i c = search needs

@@ -10,7 +10,7 @@ abbrev μ-loop : tie.MeasureT-loop
 μ-loop bytes count end sum₀ i₀ sum i = end - i
 
 least-requires : tie.Need-least-requires Inv-loop μ-loop
-least-requires c κs = tt
+least-requires c κs = search needs
 
 loop-holds : tie.Need-loop-holds Inv-loop μ-loop
 loop-holds c = search needs
@@ -19,7 +19,7 @@ shared-slice-read-add-byte : tie.Need-shared-slice-read-add-byte Inv-loop μ-loo
 shared-slice-read-add-byte c = search needs
 
 add-byte-requires : tie.Need-add-byte-requires Inv-loop μ-loop
-add-byte-requires c κs = tt
+add-byte-requires c κs = search needs
 
 add-i : tie.Need-add-i Inv-loop μ-loop
 add-i c = search needs

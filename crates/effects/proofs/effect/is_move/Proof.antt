@@ -1,6 +1,6 @@
 use mathlib.Core.Path.{refl}
-use Rattle.model.specs.Alu.{isMove}
 use Rattle.model.specs.Words.{bit, field}
+use Rattle.model.specs.Alu.{isMove}
 use Rattle.effects.proofs.effect.is_move.Statement.{statement}
 use Rattle.effects.proofs.effect.is_move.Tie as tie
 

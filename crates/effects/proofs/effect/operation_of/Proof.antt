@@ -1,7 +1,7 @@
 use mathlib.Core.Path.{refl}
 use borrow.Author.Needs.{needs}
-use Rattle.model.specs.Alu.{operation}
 use Rattle.model.specs.Words.{field}
+use Rattle.model.specs.Alu.{operation}
 use Rattle.effects.proofs.effect.operation_of.Statement.{statement}
 use Rattle.effects.proofs.effect.operation_of.Tie as tie
 

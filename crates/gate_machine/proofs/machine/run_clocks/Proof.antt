@@ -1,11 +1,11 @@
-use Prim.Native.Nat.{_+_, _^_, _≤_, _<_, _-_}
+use Prim.Native.Nat.{_+_, _-_, _^_, _≤_, _<_}
 use mathlib.Core.Path.{_≡_, refl, _∙_}
 use native.Mathlib.Omega.{arith}
 use lib.ListN.{length}
 use borrow.Author.Needs.{needs}
 use Rattle.arithmetic.proofs.Bits.{bit-le}
-use Rattle.model.specs.Agreement.{gateFrom}
 use Rattle.model.specs.GateMachine.{gate, gateRun}
+use Rattle.model.specs.Agreement.{gateFrom}
 use Rattle.model.proofs.Valid.{short, row-there}
 use Rattle.step_table.proofs.Table.{step-there}
 use Rattle.gate_rows.specs.Work.{stateOf}

@@ -9,7 +9,7 @@ granted-requires c κs = search needs
 
 returns : tie.Need-returns
 returns c =
-    let start = c .before .before .before .before .before .before in
+    let start = c .before .before .before .before .before in
     let args = start .args in
     waits-on (args .waits .now) (args .s) (args .regs .now) (args .memory .now) (args .step) (start .pre .0)
     (c .before .before .granted .ensures) (not-true _ (c .if1 .taken))
@@ -22,11 +22,11 @@ same-length c = search needs
 
 returns-2 : tie.Need-returns-2
 returns-2 c =
-    let left = c .before .before .before .before .before .before in
-    let start = left .before .before .before .before .before .before in
+    let left = c .before .before .before .before .before in
+    let start = left .before .before .before .before .before in
     let args = start .args in
     works-on (args .waits .now) (args .s) (args .regs .now) (args .memory .now) (args .step) (start .pre .0)
-    (left .before .before .granted .ensures) (not-false _ (left .if1 .left)) (c .before .before .before .work .ensures)
+    (left .before .before .granted .ensures) (not-false _ (left .if1 .left)) (c .before .before .work .ensures)
 
 pub tick-spec : {M : Type 1} → statement M
 tick-spec = tie.close (tie.spec granted-requires returns work-requires same-length returns-2)

@@ -7,9 +7,12 @@ use Rattle.gate_rows.proofs.compute.unit_of.Tie as tie
 is-move-requires : tie.Need-is-move-requires
 is-move-requires c κs = search needs
 
+answer-requires : tie.Need-answer-requires
+answer-requires c κs = search needs
+
 returns : tie.Need-returns
 unfolding alu aluOf aluAt answers
-returns c = rw (← (c .before .is-move .ensures), c .if1 .taken)
+returns c = rw (← (c .before .before .is-move .ensures), c .before .if1 .taken) (c .answer .ensures)
 
 operation-of-requires : tie.Need-operation-of-requires
 operation-of-requires c κs = search needs
@@ -24,4 +27,4 @@ returns-2 c = rw (← (c .before .before .before .is-move .ensures), c .before .
 pub unit-of-spec : {M : Type 1} → statement M
 unit-of-spec =
     tie.close
-    (tie.spec is-move-requires returns operation-of-requires gate-unit-requires returns-2)
+    (tie.spec is-move-requires answer-requires returns operation-of-requires gate-unit-requires returns-2)

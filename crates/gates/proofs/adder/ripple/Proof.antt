@@ -1,6 +1,6 @@
-use Prim.Native.Nat.{_≤_, _<_, _-_, _+_}
-use mathlib.Core.Bool.{Bool, xor}
+use Prim.Native.Nat.{_+_, _-_, _≤_, _<_}
 use mathlib.Core.Path.{_≡_, refl, sym, _∙_}
+use mathlib.Core.Bool.{Bool, xor}
 use mathlib.Core.List.{List, _++_}
 use native.Mathlib.Omega.{arith}
 use lib.ListN.{length, take, drop, length-set}

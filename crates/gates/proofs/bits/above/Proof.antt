@@ -1,6 +1,6 @@
 use Prim.Native.Nat.{ℕ, _+_}
-use mathlib.Core.Bool.{false}
 use mathlib.Core.Path.{sym, _∙_}
+use mathlib.Core.Bool.{false}
 use native.Mathlib.Omega.{arith}
 use lib.ListN.{List·getD-eq-default}
 use borrow.Author.Needs.{needs}

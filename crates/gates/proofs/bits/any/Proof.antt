@@ -1,10 +1,11 @@
-use Prim.Native.Nat.{ℕ, _≤_, _-_}
-use mathlib.Core.Path.{_≡_, sym, _∙_, ap}
+use Prim.Native.Nat.{ℕ, _-_, _≤_}
+use mathlib.Core.Path.{_≡_, sym, ap, _∙_}
 use mathlib.Core.Bool.{Bool, false, _||_}
 use native.Mathlib.Omega.{arith}
 use lib.ListN.{length, drop, getD}
+use lib.Seq.{drop-length}
 use Rattle.gates.specs.Gates.{anyOf}
-use Rattle.gates.proofs.Worth.{row-end, row-drop}
+use Rattle.gates.proofs.Worth.{row-drop}
 use Rattle.gates.proofs.bits.any.Statement.{statement}
 use Rattle.gates.proofs.bits.any.Tie as tie
 
@@ -16,7 +17,7 @@ abbrev μ-loop : tie.MeasureT-loop
 
 loop-holds : tie.Need-loop-holds Inv-loop μ-loop
 unfolding anyOf
-loop-holds c = (omega arith, sym (ap anyOf (row-end (c .args .bits .now))))
+loop-holds c = (omega arith, sym (ap anyOf (drop-length (c .args .bits .now))))
 
 sub-i : tie.Need-sub-i Inv-loop μ-loop
 sub-i c = omega arith

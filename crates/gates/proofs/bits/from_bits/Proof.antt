@@ -1,10 +1,11 @@
 use Prim.Native.Nat.{ℕ, _≤_}
-use mathlib.Core.Path.{_≡_, sym, _∙_, ap}
+use mathlib.Core.Path.{_≡_, sym, ap, _∙_}
 use native.Mathlib.Omega.{arith}
 use lib.ListN.{length, drop}
+use lib.Seq.{drop-length}
 use borrow.Author.Needs.{needs}
 use Rattle.gates.specs.Gates.{value}
-use Rattle.gates.proofs.Worth.{row-end, value-drop}
+use Rattle.gates.proofs.Worth.{value-drop}
 use Rattle.gates.proofs.bits.from_bits.Statement.{statement}
 use Rattle.gates.proofs.bits.from_bits.Tie as tie
 
@@ -16,7 +17,7 @@ abbrev μ-loop : tie.MeasureT-loop
 
 loop-holds : tie.Need-loop-holds Inv-loop μ-loop
 unfolding value
-loop-holds c = (omega arith, sym (ap value (row-end (c .args .bits .now))))
+loop-holds c = (omega arith, sym (ap value (drop-length (c .args .bits .now))))
 
 sub-i : tie.Need-sub-i Inv-loop μ-loop
 sub-i c = omega arith

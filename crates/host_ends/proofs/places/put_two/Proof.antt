@@ -1,6 +1,6 @@
 use borrow.Author.Needs.{needs}
+use Rattle.model.proofs.Stores.{all-set}
 use Rattle.host_words.proofs.Laid.{laid-over, laid-nowhere}
-use Rattle.host_ends.proofs.Numbers.{two-stored}
 use Rattle.host_ends.proofs.places.put_two.Statement.{statement}
 use Rattle.host_ends.proofs.places.put_two.Tie as tie
 
@@ -14,7 +14,7 @@ same-length : tie.Need-same-length
 same-length c = search needs
 
 returns : tie.Need-returns
-returns c = laid-over _ _ (c .before .args .result .now) (c .if1 .taken) _ (two-stored (c .before .args .result .now) _ _ (c .if1 .taken))
+returns c = laid-over _ _ (c .before .args .result .now) (c .if1 .taken) _ (all-set (c .before .args .result .now) _ (c .if1 .taken))
 
 returns-2 : tie.Need-returns-2
 returns-2 c = laid-nowhere _ _ _ (c .if1 .left)

@@ -43,7 +43,9 @@ left-in-requires : tie.Need-left-in-requires
 left-in-requires c κs = search needs
 
 returns : tie.Need-returns
-returns c = state-from _ _ (c .before .before .before .before .before .before .before .before .before .before .before .before .before .before .machine-in .ensures) _ (c .before .before .before .before .before .before .before .before .before .row-in .ensures) _ (c .left-in .ensures)
+returns c =
+    let row = c .before .before .before .before .before .before .before .before .before in
+    state-from _ _ (row .before .before .before .before .before .machine-in .ensures) _ (row .row-in .ensures) _ (c .left-in .ensures)
 
 pub state-in-spec : {M : Type 1} → statement M
 state-in-spec =

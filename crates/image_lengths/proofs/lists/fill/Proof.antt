@@ -2,6 +2,7 @@ use Prim.Native.Nat.{_-_}
 use mathlib.Core.Path.{_≡_, refl}
 use native.Mathlib.Omega.{arith}
 use lib.ListN.{length, length-set}
+use borrow.Author.Needs.{needs}
 use Rattle.image_lengths.proofs.lists.fill.Statement.{statement}
 use Rattle.image_lengths.proofs.lists.fill.Tie as tie
 
@@ -15,7 +16,7 @@ loop-holds : tie.Need-loop-holds Inv-loop μ-loop
 loop-holds c = refl
 
 word-requires : tie.Need-word-requires Inv-loop μ-loop
-word-requires c κs = tt
+word-requires c κs = search needs
 
 mul-memory : tie.Need-mul-memory Inv-loop μ-loop
 mul-memory c = omega arith

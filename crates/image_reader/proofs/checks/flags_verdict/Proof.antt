@@ -1,14 +1,13 @@
 use Prim.Native.Nat.{ℕ}
-use mathlib.Core.Path.{sym, _∙_}
+use mathlib.Core.Path.{_∙_}
 use mathlib.Core.Bool.{_&&_}
 use mathlib.Core.List.{List}
 use lib.Dec.{leb}
 use lib.ListN.{drop}
-use lib.Seq.{getD-drop}
 use borrow.Author.Needs.{needs}
 use Rattle.image.specs.Format.{flagsField}
 use Rattle.image.proofs.Headers.{with-rule}
-use Rattle.image_reader.proofs.Head.{flags-checked}
+use Rattle.image_reader.proofs.Head.{flag-at, flags-checked}
 use Rattle.image_reader.proofs.checks.flags_verdict.Statement.{statement}
 use Rattle.image_reader.proofs.checks.flags_verdict.Tie as tie
 
@@ -36,10 +35,10 @@ then-requires c κs = search needs
 returns : tie.Need-returns
 returns c =
     let bytes : List ℕ = c .before .before .before .before .before .before .before .before .args .bytes .now in
-    let e₀ = c .before .before .before .before .before .byte-at .ensures .is ∙ sym (getD-drop 42 bytes 0 0) in
-    let e₁ = c .before .before .before .before .byte-at2 .ensures .is ∙ sym (getD-drop 42 bytes 1 0) in
-    let e₂ = c .before .before .before .byte-at3 .ensures .is ∙ sym (getD-drop 42 bytes 2 0) in
-    let e₃ = c .before .before .byte-at4 .ensures .is ∙ sym (getD-drop 42 bytes 3 0) in
+    let e₀ = flag-at bytes 0 (c .before .before .before .before .before .byte-at .ensures .is) in
+    let e₁ = flag-at bytes 1 (c .before .before .before .before .byte-at2 .ensures .is) in
+    let e₂ = flag-at bytes 2 (c .before .before .before .byte-at3 .ensures .is) in
+    let e₃ = flag-at bytes 3 (c .before .before .byte-at4 .ensures .is) in
     with-rule flagsField (drop 39 bytes) (c .then .ensures) (c .before .before .before .before .before .before .header-verdict .ensures)
     (c .before .demand .ensures ∙ flags-checked bytes _ (λ i. leb (e₀ i) 1 && leb (e₁ i) 1 && leb (e₂ i) 1 && leb (e₃ i) 1))
 

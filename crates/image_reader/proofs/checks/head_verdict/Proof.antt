@@ -26,9 +26,10 @@ then-requires-3 c κs = search needs
 
 returns : tie.Need-returns
 returns c =
-    let a = c .before .before .before .before .before .before .before .before .args in
+    let last = c .before .before .before in
+    let a = last .before .before .before .before .before .args in
     head-of (a .bytes .now) (a .room) (c .then3 .ensures) (c .before .then2 .ensures) (c .before .before .then .ensures)
-    (c .before .before .before .before .before .before .version-verdict .ensures) (c .before .before .before .before .before .header-verdict .ensures) (c .before .before .before .before .flags-verdict .ensures) (c .before .before .before .count-verdict .ensures)
+    (last .before .before .before .version-verdict .ensures) (last .before .before .header-verdict .ensures) (last .before .flags-verdict .ensures) (last .count-verdict .ensures)
 
 pub head-verdict-spec : {M : Type 1} → statement M
 head-verdict-spec =

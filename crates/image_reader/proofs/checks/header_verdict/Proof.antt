@@ -27,8 +27,9 @@ pair-at-requires c κs = search needs
 
 returns-3 : tie.Need-returns-3
 returns-3 c =
-    let a = c .before .before .before .before .before .before .args in
-    wrong-length (a .tag) (a .due) (a .at) (a .bytes .now) (c .before .before .before .before .if1 .left) (sym (c .before .before .before .byte-at .ensures .is) ∙ c .before .before .if2 .left)
+    let tag = c .before .before .before in
+    let a = tag .before .before .before .args in
+    wrong-length (a .tag) (a .due) (a .at) (a .bytes .now) (tag .before .if1 .left) (sym (tag .byte-at .ensures .is) ∙ c .before .before .if2 .left)
     (λ e. c .if3 .taken (c .before .pair-at .ensures .is ∙ e))
 
 add-if4 : tie.Need-add-if4
@@ -36,14 +37,16 @@ add-if4 c = search needs
 
 returns-4 : tie.Need-returns-4
 returns-4 c =
-    let a = c .before .before .before .before .before .before .before .args in
-    cut-value (a .tag) (a .due) (a .at) (a .bytes .now) (c .before .before .before .before .before .if1 .left) (sym (c .before .before .before .before .byte-at .ensures .is) ∙ c .before .before .before .if2 .left)
+    let tag = c .before .before .before .before in
+    let a = tag .before .before .before .args in
+    cut-value (a .tag) (a .due) (a .at) (a .bytes .now) (tag .before .if1 .left) (sym (tag .byte-at .ensures .is) ∙ c .before .before .before .if2 .left)
     (sym (c .before .before .pair-at .ensures .is) ∙ c .before .if3 .left) (c .if4 .taken)
 
 returns-5 : tie.Need-returns-5
 returns-5 c =
-    let a = c .before .before .before .before .before .before .before .args in
-    whole-field (a .tag) (a .due) (a .at) (a .bytes .now) (c .before .before .before .before .before .if1 .left) (sym (c .before .before .before .before .byte-at .ensures .is) ∙ c .before .before .before .if2 .left)
+    let tag = c .before .before .before .before in
+    let a = tag .before .before .before .args in
+    whole-field (a .tag) (a .due) (a .at) (a .bytes .now) (tag .before .if1 .left) (sym (tag .byte-at .ensures .is) ∙ c .before .before .before .if2 .left)
     (sym (c .before .before .pair-at .ensures .is) ∙ c .before .if3 .left) (c .if4 .left)
 
 pub header-verdict-spec : {M : Type 1} → statement M

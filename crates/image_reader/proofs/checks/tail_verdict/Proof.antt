@@ -20,7 +20,7 @@ loop-holds : tie.Need-loop-holds Inv-loop μ-loop
 loop-holds c = (omega arith, refl, refl)
 
 words-in-field-requires : tie.Need-words-in-field-requires Inv-loop μ-loop
-words-in-field-requires c κs = tt
+words-in-field-requires c κs = search needs
 
 mul-header-verdict : tie.Need-mul-header-verdict Inv-loop μ-loop
 mul-header-verdict c = omega arith
@@ -37,9 +37,11 @@ enum-known-verdict c = search needs
 
 returns : tie.Need-returns Inv-loop μ-loop
 returns c =
-    let a = c .before .before .before .before .before .before .before .before .args in
-    let l = c .before .before .before .before .before .before .loop in
-    tail-refused (l .left) (l .at) _ (a .bytes .now) (omega (arith, c .before .before .before .before .before .loop-test .taken)) (c .before .before .before .before .words-in-field .ensures) (c .before .verdict .given .1) (c .before .before .before .header-verdict .ensures) (l .inv .2)
+    let read = c .before .before .before in
+    let a = read .before .before .before .before .before .args in
+    let l = read .before .before .before .loop in
+    tail-refused (l .left) (l .at) _ (a .bytes .now) (omega (arith, read .before .before .loop-test .taken)) (read .before .words-in-field .ensures)
+    (c .before .verdict .given .1) (read .header-verdict .ensures) (l .inv .2)
 
 enum-told : tie.Need-enum-told Inv-loop μ-loop
 enum-told c = search needs
@@ -78,10 +80,10 @@ unfolding fieldsFor
 add-last c = omega arith
 
 demand-requires : tie.Need-demand-requires Inv-loop μ-loop
-demand-requires c κs = tt
+demand-requires c κs = search needs
 
 then-requires : tie.Need-then-requires Inv-loop μ-loop
-then-requires c κs = tt
+then-requires c κs = search needs
 
 returns-2 : tie.Need-returns-2 Inv-loop μ-loop
 returns-2 c =

@@ -1,10 +1,11 @@
-use Prim.Native.Nat.{ℕ, _+_, _*_, _-_, _≤_, min}
+use Prim.Native.Nat.{ℕ, _+_, _-_, _*_, _≤_, min}
 use mathlib.Core.Path.{_≡_, refl, sym, ap, _∙_}
 use mathlib.Core.List.{List, _++_}
-use native.Mathlib.Omega.{arith}
 use native.Mathlib.Nat.{sub-zero}
+use native.Mathlib.Omega.{arith}
 use lib.ListN.{length, drop}
 use lib.Seq.{sets}
+use borrow.Author.Needs.{needs}
 use Rattle.model.proofs.Stores.{store-step, store-end}
 use Rattle.image.specs.Bytes.{wordsIn}
 use Rattle.image.specs.Format.{wordsPerField, fieldsFor, spanOf}
@@ -31,7 +32,7 @@ sub-words-in-field : tie.Need-sub-words-in-field Inv-loop μ-loop
 sub-words-in-field c = omega arith
 
 words-in-field-requires : tie.Need-words-in-field-requires Inv-loop μ-loop
-words-in-field-requires c κs = tt
+words-in-field-requires c κs = search needs
 
 add-get-words : tie.Need-add-get-words Inv-loop μ-loop
 unfolding fieldsFor

@@ -32,8 +32,9 @@ same-length c = search needs
 
 returns : tie.Need-returns
 returns c =
-    let a = c .before .before .before .before .before .before .before .before .before .before .before .before .before .args in
-    let h = c .before .before .before .before .before .before .before .before .before .before .put-header in
+    let headed = c .before .before .before .before .before .before .before .before .before .before in
+    let a = headed .before .before .before .args in
+    let h = headed .put-header in
     field-put flagsField (a .out .now) (h .last .0) _ (a .at) 4 (flagNumbers (a .flags)) (h .ensures) (c .before .before .put-four .ensures) refl
 
 pub put-flags-spec : {M : Type 1} → statement M

@@ -5,6 +5,7 @@ use native.Mathlib.Nat.{sub-zero}
 use native.Mathlib.Omega.{arith}
 use lib.ListN.{length, take, drop}
 use lib.Seq.{sets}
+use borrow.Author.Needs.{needs}
 use Rattle.model.proofs.Stores.{store-step, store-end}
 use Rattle.image.specs.Bytes.{wordBytes}
 use Rattle.image.specs.Format.{fieldBytes, wordsField, wordsPerField, fieldsFor, spanOf, memoryFields}
@@ -29,7 +30,7 @@ sub-words-in-field : tie.Need-sub-words-in-field Inv-loop μ-loop
 sub-words-in-field c = omega arith
 
 words-in-field-requires : tie.Need-words-in-field-requires Inv-loop μ-loop
-words-in-field-requires c κs = tt
+words-in-field-requires c κs = search needs
 
 put-word-field-requires : tie.Need-put-word-field-requires Inv-loop μ-loop
 unfolding fieldsFor

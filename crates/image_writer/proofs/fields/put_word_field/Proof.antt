@@ -2,12 +2,12 @@ use Prim.Native.Nat.{ℕ, _*_}
 use mathlib.Core.Path.{_≡_, sym, ap, _∙_}
 use mathlib.Core.List.{List}
 use native.Mathlib.Omega.{arith}
-use lib.ListN.{length, take, drop, length-drop}
-use lib.Seq.{length-take-le}
+use lib.ListN.{length, take, drop}
 use borrow.Author.Needs.{needs}
 use Rattle.image.specs.Bytes.{wordBytes}
 use Rattle.image.specs.Format.{wordsField}
 use Rattle.image.proofs.Bytes.{length-word-bytes}
+use Rattle.image.proofs.Memories.{length-part}
 use Rattle.image_writer.proofs.Puts.{field-put}
 use Rattle.image_writer.proofs.fields.put_word_field.Statement.{statement}
 use Rattle.image_writer.proofs.fields.put_word_field.Tie as tie
@@ -35,7 +35,7 @@ returns c =
     let a = c .before .before .before .before .before .before .before .before .before .before .args in
     let h = c .before .before .before .before .before .before .put-header in
     let words : List ℕ = take (a .count) (drop (a .from) (a .memory .now)) in
-    let l : length words ≡ a .count = length-take-le (a .count) (drop (a .from) (a .memory .now)) (omega (arith, length-drop (a .from) (a .memory .now))) in
+    let l : length words ≡ a .count = length-part (a .memory .now) (a .from) (a .count) (omega arith) in
     field-put (wordsField (a .count)) (a .out .now) (h .last .0) _ (a .at) (4 * a .count) (wordBytes words) (h .ensures) (c .before .before .put-words .ensures)
     (ap (λ (n : ℕ). 4 * n) (sym l) ∙ sym (length-word-bytes words))
 

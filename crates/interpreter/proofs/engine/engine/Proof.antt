@@ -34,7 +34,7 @@ loop-holds : tie.Need-loop-holds Inv-loop μ-loop
 loop-holds c = begins
 
 step-requires : tie.Need-step-requires Inv-loop μ-loop
-step-requires c κs = tt
+step-requires c κs = search needs
 
 run-end-requires : tie.Need-run-end-requires Inv-loop μ-loop
 run-end-requires c κs = search needs

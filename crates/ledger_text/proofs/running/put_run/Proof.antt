@@ -3,7 +3,7 @@ use mathlib.Core.Path.{_∙_}
 use native.Mathlib.Omega.{arith}
 use borrow.Author.Needs.{needs}
 use Rattle.ledger_lines.specs.Lines.{mostLines}
-use Rattle.ledger_text.proofs.Turns.{At, begins, at-small, clocks-fit, turn, outside, finished}
+use Rattle.ledger_text.proofs.Turns.{At, begins, at-small, total-fits, turn, outside, finished}
 use Rattle.ledger_text.proofs.running.put_run.Statement.{statement}
 use Rattle.ledger_text.proofs.running.put_run.Tie as tie
 
@@ -23,10 +23,10 @@ fit-at : (t : tie.After-run-one Inv-loop μ-loop)
     → t .before .before .before .before .before .before .before .loop .clocks + t .run-one .result .clocks ≤ 200
 fit-at t =
     let l = t .before .before .before .before .before .before .before in
-    clocks-fit (l .loop .inv) (t .run-one .ensures) (l .before .before .before .before .before .before .before .pre)
+    total-fits (l .loop .inv) (t .run-one .ensures) (l .before .before .before .before .before .before .before .pre)
 
 put-heading-requires : tie.Need-put-heading-requires Inv-loop μ-loop
-put-heading-requires c κs = tt
+put-heading-requires c κs = search needs
 
 loop-holds : tie.Need-loop-holds Inv-loop μ-loop
 loop-holds c = begins
@@ -41,7 +41,7 @@ load-requires : tie.Need-load-requires Inv-loop μ-loop
 load-requires c κs = search needs
 
 run-one-requires : tie.Need-run-one-requires Inv-loop μ-loop
-run-one-requires c κs = tt
+run-one-requires c κs = search needs
 
 put-ending-requires : tie.Need-put-ending-requires Inv-loop μ-loop
 put-ending-requires c κs = small-at (c .before .before .before .before .before .before .before .before .before .before .before .before)

@@ -1,4 +1,4 @@
-use mathlib.Core.Path.{_∙_, sym}
+use mathlib.Core.Path.{sym, _∙_}
 use borrow.Author.Needs.{needs}
 use Rattle.step.proofs.Operands.{taken-memory, taken-direct}
 use Rattle.step.proofs.take.look.Statement.{statement}

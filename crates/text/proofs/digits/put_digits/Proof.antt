@@ -4,7 +4,7 @@ use native.Mathlib.Nat.{mod-lt}
 use native.Mathlib.Omega.{arith}
 use lib.ListN.{length}
 use lib.Seq.{sets}
-use denote.Ref.{now}
+use borrow.Author.Needs.{needs}
 use Rattle.model.proofs.Stores.{sets-out}
 use Rattle.text.specs.Text.{digits}
 use Rattle.text.proofs.Figures.{digits-turn}
@@ -34,7 +34,7 @@ digit-of-requires : tie.Need-digit-of-requires Inv-loop μ-loop
 digit-of-requires c κs = omega (arith, mod-lt (c .before .before .loop .rest) {m = c .before .before .before .before .before .args .base} (omega arith))
 
 put-byte-requires : tie.Need-put-byte-requires Inv-loop μ-loop
-put-byte-requires c κs = tt
+put-byte-requires c κs = search needs
 
 div-rest : tie.Need-div-rest Inv-loop μ-loop
 div-rest c = omega arith
@@ -59,13 +59,13 @@ returns : tie.Need-returns Inv-loop μ-loop
 unfolding digits
 returns c =
     let at = c .before .loop in
-    let a = c .before .before .before .before .args in
     let none : at .left ≡ 0 = omega arith in
     rw none at (at .inv .2)
 
 returns-2 : tie.Need-returns-2 Inv-loop μ-loop
-returns-2 c = let a = c .before .before .args in
-    sym (sets-out (now (a .out)) (a .at) (digits (a .base) (a .count) (a .n)) (c .if1 .left))
+returns-2 c =
+    let a = c .before .before .args in
+    sym (sets-out (a .out .now) (a .at) (digits (a .base) (a .count) (a .n)) (c .if1 .left))
 
 pub put-digits-spec : {M : Type 1} → statement M
 put-digits-spec =

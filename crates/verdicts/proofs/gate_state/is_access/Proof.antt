@@ -1,8 +1,8 @@
 use mathlib.Core.Path.{refl, ap, _∙_}
 use native.Mathlib.Omega.{arith}
 use borrow.Author.Needs.{needs}
-use Rattle.step_table.specs.Table.{marksAccess}
 use Rattle.model.proofs.Clocks.{access-past}
+use Rattle.step_table.specs.Table.{marksAccess}
 use Rattle.step_table.proofs.Table.{step-there, access-mark}
 use Rattle.verdicts.proofs.gate_state.is_access.Statement.{statement}
 use Rattle.verdicts.proofs.gate_state.is_access.Tie as tie
@@ -17,7 +17,7 @@ array-copy-out-step : tie.Need-array-copy-out-step
 array-copy-out-step c = search needs
 
 returns : tie.Need-returns
-returns c = ap marksAccess (step-there (c .before .before .steps .ensures) refl (omega (arith, c .before .before .before .if1 .taken)) _) ∙ access-mark _
+returns c = ap marksAccess (step-there (c .before .steps .ensures) refl (omega (arith, c .before .before .if1 .taken)) _) ∙ access-mark _
 
 returns-2 : tie.Need-returns-2
 returns-2 c = access-past _ (c .if1 .left)

@@ -1,11 +1,11 @@
 use Prim.Native.Nat.{ℕ, _%_}
-use mathlib.Core.Path.{_≡_, _∙_, sym, subst}
+use mathlib.Core.Path.{_≡_, sym, subst, _∙_}
 use borrow.Author.Needs.{needs}
 use Rattle.arithmetic.specs.declared.AluOut.{AluOut}
 use Rattle.arithmetic.specs.Alu.{answers, aluOf, aluAt}
 use Rattle.arithmetic.proofs.Operations.{moved}
-use Rattle.arithmetic.proofs.word.answered.Statement.{statement}
-use Rattle.arithmetic.proofs.word.answered.Tie as tie
+use Rattle.arithmetic.proofs.word.by_operation.Statement.{statement}
+use Rattle.arithmetic.proofs.word.by_operation.Tie as tie
 
 -- the answer by the number that the match found
 by-op : (s : tie.Start) (m : ℕ) {r : AluOut} → s .args .operation % 16 ≡ m → r ≡ aluAt 31 m (s .args .a) (s .args .b) (s .args .carry)
@@ -120,8 +120,8 @@ returns-15 c =
     let r = c .before .before .args in
     c .plain5 .ensures ∙ sym (moved 31 (r .operation % 16) (r .a) (r .b) (r .carry) (c .before .match .rest))
 
-pub answered-spec : {M : Type 1} → statement M
-answered-spec =
+pub by-operation-spec : {M : Type 1} → statement M
+by-operation-spec =
     tie.close
     (tie.spec
     sum-requires
