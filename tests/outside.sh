@@ -6,6 +6,12 @@ set -euo pipefail
 cd "$(dirname "$0")/.."
 . tests/tools.sh
 
+# The static library is built on one core while the other tests the reference.
+log=$(mktemp)
+rt staticlib host >"$log" 2>&1 &
+library=$!
+trap 'kill "$library" 2>/dev/null || true; rm -f "$log"' EXIT
+
 echo "outside: the crates in reading order"
 bash tests/layers.sh
 
@@ -19,7 +25,7 @@ echo "outside: the ledger program"
 bash tests/ledger.sh
 
 echo "outside: the static library"
-rt staticlib host
+wait "$library" || { cat "$log" >&2; exit 1; }
 
 echo "outside: the proved calls against the reference emulator"
 cargo build --quiet --release --offline --manifest-path harness/Cargo.toml --features library --bin differential

@@ -1,13 +1,10 @@
 // The input, read a word at a time; past its end every word is 0.
-use effects::unpacked;
 use libc::STDIN_FILENO;
-use model::Machine;
-use operands::wide;
 ghost use mathlib.Core.Path.{_≡_};
 ghost use Prim.Native.Nat.{_≤_, min};
 
 // The longest memory and wait list of a case.
-pub const MOST_LIST: usize = 64;
+const MOST_LIST: usize = 64;
 
 // A list of words, each also as a wait.
 pub struct List {
@@ -38,7 +35,7 @@ pub fn next_word() -> u32 {
 pub fn next_number(most: usize) -> usize
     ensures { λ r. ⌜ r ≤ most ⌝ }
 {
-    least(wide(next_word()), most)
+    least(next_word() as usize, most)
 }
 
 pub fn half(word: u32) -> u16 {
@@ -73,8 +70,8 @@ pub fn front_waits(waits: &[u16], count: usize) -> &[u16] {
     &waits[0..end]
 }
 
-pub fn next_machine() -> Machine {
-    let regs = [
+pub fn next_registers() -> [u32; 8] {
+    [
         next_word(),
         next_word(),
         next_word(),
@@ -83,7 +80,5 @@ pub fn next_machine() -> Machine {
         next_word(),
         next_word(),
         next_word(),
-    ];
-    let flags = unpacked(next_word());
-    Machine { regs, flags }
+    ]
 }

@@ -2,9 +2,9 @@
 use gate_machine::GateAnswer;
 use gate_machine::GateOutcome;
 use gate_machine::GateResult;
-use gate_machine::clock_lent;
+use lent_clock::clock_lent;
 use model::GateState;
-ghost use Rattle.gate_machine.specs.Calls.{LentClock};
+ghost use Rattle.lent_clock.specs.Calls.{LentClock};
 
 // The one function here with a reference to a struct: its proof is by hand, and its callers need none.
 fn clock_once(memory: &mut [u32], waits: &[u16], mut state: GateState) -> GateResult
@@ -40,7 +40,7 @@ pub fn clock_by_clock(
     };
     let mut left = clocks;
     while 0 < left {
-        let next = one_more(&mut *memory, waits, result);
+        let next = one_more(memory, waits, result);
         result = next;
         left -= 1;
     }

@@ -1,67 +1,28 @@
-// A gate state: what a number of clocks makes of it, in one run and one at a time.
-use super::input::List;
-use super::input::MOST_LIST;
+// A gate state: what a number of clocks makes of it, one at a time.
 use super::input::front_waits;
 use super::input::front_words;
 use super::input::half;
 use super::input::next_list;
-use super::input::next_machine;
 use super::input::next_number;
+use super::input::next_registers;
 use super::input::next_word;
 use super::lending::clock_by_clock;
 use super::print::print;
-use super::print::print_machine;
-use super::print::print_memory;
+use super::print::print_flags;
 use super::print::print_number;
-use super::print::print_refused;
 use super::print::print_words;
 use gate_machine::GateAnswer;
 use gate_machine::GateResult;
 use model::GateState;
-use model::Machine;
+use packed_flags::unpacked;
+use refusals::refusal_number;
 
 const MOST_CLOCKS: usize = 400;
 
-// What a gate run answers, and the memory after it.
-pub struct GateRun {
-    pub result: GateResult,
-    pub words: [u32; MOST_LIST],
-}
-
-// In one run, or one clock at a time on a state that is lent.
-fn gate_result(
-    memory: &mut [u32],
-    waits: &[u16],
-    start: GateState,
-    clocks: u64,
-    lent: bool,
-) -> GateResult {
-    if lent {
-        return clock_by_clock(memory, waits, start, clocks);
-    }
-    gate_machine::run(memory, waits, start, clocks)
-}
-
-pub fn run_gates(memory: List, waits: List, start: GateState, clocks: u64, lent: bool) -> GateRun {
-    let mut words = memory.words;
-    let entries = waits.waits;
-    let result = gate_result(
-        front_words(&mut words, memory.count),
-        front_waits(&entries, waits.count),
-        start,
-        clocks,
-        lent,
-    );
-    GateRun { result, words }
-}
-
 fn next_state() -> GateState {
-    let machine = next_machine();
-    let regs = machine.regs;
-    let flags = machine.flags;
     GateState {
-        regs,
-        flags,
+        regs: next_registers(),
+        flags: unpacked(next_word()),
         row: (next_word() % 256) as u8,
         instruction: next_word(),
         address: next_word(),
@@ -74,13 +35,13 @@ fn next_state() -> GateState {
     }
 }
 
-fn print_gate_answer(name: &[u8], answer: GateAnswer) {
+fn print_answer(answer: GateAnswer) {
     match answer {
-        GateAnswer::Ran => {
-            print(name);
-            print(b" ran");
+        GateAnswer::Ran => print(b" ran"),
+        GateAnswer::Refused(why) => {
+            print(b" refused");
+            print_number(refusal_number(why) as u64);
         }
-        GateAnswer::Refused(why) => print_refused(name, why),
     }
 }
 
@@ -88,7 +49,8 @@ fn print_gate_answer(name: &[u8], answer: GateAnswer) {
 fn print_state(s: GateState) {
     let regs = s.regs;
     let flags = s.flags;
-    print_machine(Machine { regs, flags });
+    print_flags(flags);
+    print_words(&regs, 8);
     print_number(s.row as u64);
     print_words(&[s.instruction, s.address, s.a, s.b, s.result], 5);
     print_number(s.position as u64);
@@ -96,26 +58,32 @@ fn print_state(s: GateState) {
     print_number(s.left as u64);
 }
 
-// The line's name, ANSWER finished, the state, m0..
-fn print_gate_run(name: &[u8], run: GateRun, count: usize) {
-    let result = run.result;
+// ANSWER finished, the state
+fn print_result(result: GateResult) {
     let outcome = result.outcome;
     let answer = outcome.answer;
     let state = result.state;
-    let words = run.words;
-    print_gate_answer(name, answer);
+    print_answer(answer);
     print_number(outcome.finished);
     print_state(state);
-    print_memory(words, count);
 }
 
+// lent ANSWER finished, the state, m0..
 pub fn state_case() {
     let memory = next_list();
     let waits = next_list();
     let start = next_state();
     let clocks = next_number(MOST_CLOCKS) as u64;
-    let run = run_gates(memory, waits, start, clocks, false);
-    let lent = run_gates(memory, waits, start, clocks, true);
-    print_gate_run(b"state", run, memory.count);
-    print_gate_run(b"lent", lent, memory.count);
+    let mut words = memory.words;
+    let entries = waits.waits;
+    let result = clock_by_clock(
+        front_words(&mut words, memory.count),
+        front_waits(&entries, waits.count),
+        start,
+        clocks,
+    );
+    print(b"lent");
+    print_result(result);
+    print_words(&words, memory.count);
+    print(b"\n");
 }

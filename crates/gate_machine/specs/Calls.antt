@@ -1,5 +1,5 @@
--- The two public calls, a gate run and one clock on a borrowed state: their results and the memory at exit, carried out or turned down.
--- Document 01, "Clocks" and "Why a call is turned down".
+-- The public call, a gate run: its result and the memory at exit, carried out or turned down. Document 01, "Clocks" and "Why a call is
+-- turned down".
 use Prim.Native.Nat.{ℕ}
 use mathlib.Core.Path.{_≡_}
 use mathlib.Core.List.{List}
@@ -10,7 +10,6 @@ use Rattle.model.specs.GateMachine.{Gate, gateRun}
 use Rattle.model.specs.Refusals.{refusalNumber, verdictNumber, leftBy, gateVerdict}
 use Rattle.model.specs.Agreement.{gateFrom}
 use Rattle.gate_machine.specs.declared.GateAnswer.{GateAnswer}
-use Rattle.gate_machine.specs.declared.GateOutcome.{GateOutcome}
 use Rattle.gate_machine.specs.declared.GateResult.{GateResult}
 
 -- a gate run that is turned down returns its start, and has finished nothing
@@ -30,17 +29,8 @@ gateReturned memory waits start clocks = gateResult (gateVerdict memory waits st
 unfoldable pub gateWords : (memory waits : List ℕ) → GateState → (clocks : ℕ) → List ℕ
 gateWords memory waits start clocks = leftBy (gateVerdict memory waits start) (gateRun waits clocks (gateFrom start memory) .memory) memory
 
--- ---- the gate run
-
+-- what a gate run promises: its result, the memory's words, and the number for why it was turned down
 pub record GateRuns (memory waits : List ℕ) (start : GateState) (clocks : ℕ) (memory′ : List ℕ) (r : GateResult) : Type 0 where
   pub result : r ≡ gateReturned memory waits start clocks
   pub words : memory′ ≡ gateWords memory waits start clocks
   pub number : gateNumber (r .outcome .answer) ≡ verdictNumber (gateVerdict memory waits start)
-
--- ---- one clock: the outcome of a gate run of one, on the state that was lent, which is advanced
-
-pub record LentClock (memory waits : List ℕ) (state : GateState) (memory′ : List ℕ) (state′ : GateState) (r : GateOutcome) : Type 0 where
-  pub result : r ≡ gateReturned memory waits state 1 .outcome
-  pub advanced : state′ ≡ gateReturned memory waits state 1 .state
-  pub words : memory′ ≡ gateWords memory waits state 1
-  pub number : gateNumber (r .answer) ≡ verdictNumber (gateVerdict memory waits state)

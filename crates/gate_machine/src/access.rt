@@ -1,6 +1,5 @@
 // The access protocol: an access takes its wait on its first clock, counts it down, and does the row's work on the last.
 use gate_rows::Latches;
-use operands::wide;
 ghost use mathlib.Core.Path.{_≡_};
 ghost use mathlib.Core.List.{[]};
 ghost use Prim.Native.Nat.{_-_, _≤_};
@@ -24,7 +23,7 @@ pub struct Grant {
 fn wait_at(waits: &[u16], position: u32) -> u16
     ensures { λ r. ⌜ r ≡ waitAt (now (waits .entry)) position ⌝ }
 {
-    let i = wide(position);
+    let i = position as usize;
     if i < waits.len() { waits[i] } else { 0 }
 }
 
@@ -32,7 +31,7 @@ fn next_position(waits: &[u16], position: u32) -> u32
     requires { ⌜ length (now waits) ≤ mostWaits ⌝ }
     ensures { λ r. ⌜ r ≡ nextPosition (now (waits .entry)) position ⌝ }
 {
-    if wide(position) < waits.len() {
+    if (position as usize) < waits.len() {
         position + 1
     } else {
         position
@@ -79,7 +78,7 @@ pub fn granted(s: Latches, access: bool, words: usize, waits: &[u16]) -> Grant
     if !access {
         return untouched(s, true);
     }
-    if words <= wide(s.address) {
+    if words <= s.address as usize {
         return untouched(s, false);
     }
     if s.begun {

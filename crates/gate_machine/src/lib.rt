@@ -1,4 +1,4 @@
-// The gate machine: a run of clocks, and one clock on a borrowed state.
+// The gate machine: a run of clocks.
 mod access;
 mod machine;
 mod parts;
@@ -8,7 +8,7 @@ use model::GateState;
 use model::Refusal;
 use model::Verdict;
 use verdicts::gate_verdict;
-ghost use Rattle.gate_machine.specs.Calls.{GateRuns, LentClock};
+ghost use Rattle.gate_machine.specs.Calls.{GateRuns};
 
 pub enum GateAnswer {
     Ran,
@@ -50,21 +50,4 @@ pub fn run(memory: &mut [u32], waits: &[u16], start: GateState, clocks: u64) -> 
             }
         }
     }
-}
-
-// A run of one clock.
-fn clock(memory: &mut [u32], waits: &[u16], state: GateState) -> GateResult
-    ensures { λ r. ⌜ GateRuns (now (memory .entry)) (now (waits .entry)) state 1 (now (memory .exit)) r ⌝ }
-{
-    run(memory, waits, state, 1)
-}
-
-// One clock on a borrowed state: copied out, clocked by value, stored.
-pub fn clock_lent(memory: &mut [u32], waits: &[u16], state: &mut GateState) -> GateOutcome
-    ensures { λ r. ⌜ LentClock (now (memory .entry)) (now (waits .entry)) (now (state .entry)) (now (memory .exit)) (now (state .exit)) r ⌝ }
-{
-    let s = *state;
-    let r = clock(memory, waits, s);
-    *state = r.state;
-    r.outcome
 }

@@ -79,7 +79,7 @@ pub fn run_clocks(memory: &mut [u32], waits: &[u16], start: GateState, clocks: u
     let mut i: u64 = 0;
     while i < clocks {
         let step = table[s.row as usize];
-        let t = tick(s, step, &mut regs, &mut *memory, waits);
+        let t = tick(s, step, &mut regs, memory, waits);
         let next = t.latches;
         s = next;
         finished += t.finished as u64;

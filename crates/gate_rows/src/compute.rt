@@ -4,8 +4,8 @@ use arithmetic::AluOut;
 use arithmetic::answer;
 use effects::flags_after_apart;
 use effects::is_move;
-use effects::operation_of;
 use effects::stores_apart;
+use effects::unit_operation;
 use gates::gate_unit;
 use model::Flags;
 use operands::in_memory;
@@ -27,7 +27,7 @@ fn unit_of(word: u32, flags: Flags, a: u32, b: u32) -> AluOut
     if is_move(word) {
         return answer(a, false, false);
     }
-    gate_unit(operation_of(word), a, b, flags.carry)
+    gate_unit(unit_operation(word), a, b, flags.carry)
 }
 
 // One of a step's three next rows.

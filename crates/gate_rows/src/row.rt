@@ -7,7 +7,6 @@ use operands::load;
 use operands::operand_a;
 use operands::operand_b;
 use operands::store;
-use operands::wide;
 use registers::register_word;
 use registers::set_register;
 use registers::step_down;
@@ -64,7 +63,7 @@ fn prepare(s: Latches, o: Operand, second: bool, regs: &mut [u32; 8], step: Step
     ensures { λ r. ⌜ stateOf (now (regs .exit)) r ≡ prepare o (memoryRow step) (directRow step) (cond second withB withA) (stateOf (now (regs .entry)) s) ⌝ }
 {
     let Step(memory, direct, _, _) = step;
-    step_down(o, &mut *regs);
+    step_down(o, regs);
     let word = register_word(o, &*regs);
     if in_memory(o) {
         return latch_address(s, word, memory);
@@ -84,22 +83,22 @@ pub fn work(s: Latches, step: Step, regs: &mut [u32; 8], memory: &mut [u32]) -> 
     let Step(next, _, _, _) = step;
     match row {
         0 => latch_address(s, regs[0], next),
-        1 => latch_instruction(s, load(&*memory, wide(s.address)), next),
+        1 => latch_instruction(s, load(&*memory, s.address as usize), next),
         2 => {
             step_pc(regs);
             moved(s, next)
         }
         3 => prepare(s, operand_a(word), false, regs, step),
-        4 => latch_a(s, load(&*memory, wide(s.address)), next),
+        4 => latch_a(s, load(&*memory, s.address as usize), next),
         5 => prepare(s, operand_b(word), true, regs, step),
-        6 => latch_b(s, load(&*memory, wide(s.address)), next),
+        6 => latch_b(s, load(&*memory, s.address as usize), next),
         7 => compute(s, step),
         8 => {
             set_register(operand_b(word), s.result, regs);
             moved(s, next)
         }
         9 => {
-            store(memory, wide(s.address), s.result);
+            store(memory, s.address as usize, s.result);
             moved(s, next)
         }
         10 => {

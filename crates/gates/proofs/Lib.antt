@@ -1,5 +1,1 @@
 mod Turns
-mod Worth
-mod RowWorth
-mod Adders
-mod Network

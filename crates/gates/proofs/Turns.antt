@@ -1,17 +1,15 @@
 -- Loops that fill a row of bits from the front, one store a turn. The invariant is `take i out ++ rest ≡ whole`, where rest is what is
 -- still to come.
-use Prim.Native.Nat.{ℕ, zero, suc, _+_, _/_, _%_, _^_, _≤_, _<_}
+use Prim.Native.Nat.{ℕ, suc, _+_, _≤_, _<_}
 use mathlib.Core.Path.{_≡_, refl, sym, ap, _∙_}
 use mathlib.Core.Bool.{Bool, false}
 use mathlib.Core.List.{List, [], _∷_, _++_, append-assoc, append-nil}
-use native.Mathlib.Nat.{add-zero, le-of-suc-le-suc, div-one, div-div-eq-div-mul, pow-succ'}
+use native.Mathlib.Nat.{add-zero}
 use native.Mathlib.Numerals.{add-one}
-use native.Mathlib.Omega.{arith}
-use lib.Dec.{eqb}
 use lib.ListN.{length, take, drop, getD, set, drop-of-length-le}
 use lib.Seq.{take-suc-set, drop-cons, take-all, getD-drop}
-use Rattle.gates.specs.declared.control.Lines.{Lines}
-use Rattle.gates.specs.Gates.{bitsOf, fullSum, fullCarry, rippleSum, rippleCarry, firstBit, secondBit, firstRow, secondRow}
+use Rattle.gate_network.specs.declared.Lines.{Lines}
+use Rattle.gate_network.specs.Gates.{fullSum, fullCarry, rippleSum, rippleCarry, firstBit, secondBit, firstRow, secondRow}
 
 -- a turn: the row still to come is the bit that is stored and then the rest
 pub turn : (l rest more whole : List Bool) (i : ℕ) (x y : Bool) → i < length l → x ≡ y → rest ≡ y ∷ more → take i l ++ rest ≡ whole
@@ -70,18 +68,3 @@ module _ (l : Lines) (a b : List Bool) (i : ℕ) (e : length a ≤ i) where
   pub second-end : [] ≡ secondRow l (drop i a)
   unfolding secondRow
   second-end = ap (λ (m : List Bool). secondRow l m) (sym (drop-of-length-le a e))
-
--- ---- the bits of a word
-
-pub length-bits : (n x : ℕ) → length (bitsOf n x) ≡ n
-unfolding bitsOf
-length-bits zero x = refl
-length-bits (suc n) x = ap suc (length-bits n (x / 2))
-
-pub bit-at : (n x i : ℕ) (d : Bool) → i < n → getD (bitsOf n x) i d ≡ eqb (x / 2 ^ i % 2) 1
-unfolding bitsOf
-bit-at zero x i d h = absurd (omega arith)
-bit-at (suc n) x zero d h = ap (λ (y : ℕ). eqb (y % 2) 1) (sym (div-one x))
-bit-at (suc n) x (suc i) d h =
-    bit-at n (x / 2) i d (le-of-suc-le-suc h)
-    ∙ ap (λ (y : ℕ). eqb (y % 2) 1) (div-div-eq-div-mul x 2 (2 ^ i) ∙ ap (λ (m : ℕ). x / m) (sym (pow-succ' 2 i)))

@@ -1,7 +1,7 @@
 // The ripple adder of any width: full adders of gates on single bits, the carry going up from one to the next.
 ghost use mathlib.Core.Path.{_≡_};
 ghost use lib.ListN.{length};
-ghost use Rattle.gates.specs.Gates.{rippleSum, rippleCarry};
+ghost use Rattle.gate_network.specs.Gates.{rippleSum, rippleCarry};
 
 // The sum of two rows and a carry, lowest bit first. Returns the carry out.
 pub fn ripple(a: &[bool], b: &[bool], carry: bool, out: &mut [bool]) -> bool

@@ -3,7 +3,7 @@ ghost use mathlib.Core.Path.{_≡_};
 ghost use mathlib.Core.Bool.{false};
 ghost use Prim.Native.Nat.{_+_, _≤_, _<_};
 ghost use lib.ListN.{length, getD};
-ghost use Rattle.gates.specs.Gates.{value, bitsOf, anyOf};
+ghost use Rattle.gate_network.specs.Gates.{value, bitsOf, anyOf};
 
 // The bit of a word at a place, the lowest at 0.
 pub fn bit(word: u32, place: usize) -> bool

@@ -1,24 +1,7 @@
 // The unit's control lines, made by gates from the operation's four lines.
+use gate_network::Lines;
 ghost use mathlib.Core.Path.{_≡_};
-ghost use Rattle.gates.specs.Gates.{select, linesOf};
-
-// What steers the rows and the flags.
-pub struct Lines {
-    // The table of the first row's generator, by the bits of a and b.
-    pub t00: bool,
-    pub t01: bool,
-    pub t10: bool,
-    pub t11: bool,
-    // The first row is a shifted down, with the bit that comes in at the top.
-    pub shift: bool,
-    pub top: bool,
-    // Whether a is in the second row.
-    pub second: bool,
-    // A difference: the second row is complemented, and the carry out turned round.
-    pub turn: bool,
-    // The adder's carry in.
-    pub carry: bool,
-}
+ghost use Rattle.gate_network.specs.Gates.{select, linesOf};
 
 // A selector: `q` where `s` is 1, else `p`.
 pub fn selector(s: bool, p: bool, q: bool) -> bool

@@ -1,11 +1,11 @@
 // The two rows that the adder is given: selectors let one adder serve every operation.
 use super::bits::above;
 use super::bits::bit;
-use super::control::Lines;
 use super::control::selector;
+use gate_network::Lines;
 ghost use mathlib.Core.Path.{_≡_};
 ghost use lib.ListN.{length};
-ghost use Rattle.gates.specs.Gates.{bitsOf, firstBit, firstRow, secondRow};
+ghost use Rattle.gate_network.specs.Gates.{bitsOf, firstBit, firstRow, secondRow};
 
 // One place of the first row: the table's entry for the bits of a and b, or in a shift the bit of a one place up.
 fn first_bit(l: Lines, a: bool, b: bool, up: bool) -> bool

@@ -16,10 +16,11 @@ use Rattle.host_reading.specs.declared.MachineLent.{MachineLent}
 use Rattle.host_reading.specs.declared.StateLent.{StateLent}
 use Rattle.host_reading.specs.Layout.{runPlaces, countPlaces, machineSize, stateSize, lentFormed, machineLent, stateLent}
 use Rattle.host_reading.proofs.Lengths.{lent-tests}
-use Rattle.host_reading.proofs.Starts.{machine-misfits, machine-formed, machine-start, state-misfits, state-formed, state-start}
-use Rattle.host_ends.specs.Codes.{misfit, codeIf, afterCall, Ends, RunEnds, FileEnds, GateEnds, ReadEnds, WriteEnds}
+use Rattle.host_reading.proofs.Starts.{lent-misfits, lent-fits, machine-tested, machine-start, state-tested, state-start}
+use Rattle.host_calls.specs.Codes.{misfit, codeIf, afterCall}
+use Rattle.host_calls.specs.Calls.{RunCall, FileCall, GateCall, ReadCall, WriteCall}
+use Rattle.host_ends.specs.Ends.{Ends, RunEnds, FileEnds, GateEnds, ReadEnds, WriteEnds}
 use Rattle.host_ends.proofs.Fitting.{ends-fitting}
-use Rattle.host.specs.Calls.{RunCall, FileCall, GateCall, ReadCall, WriteCall}
 
 -- the end of a call on a lent machine that is formed
 module _ (machine result : List ℕ) (due : ℕ) (lent : MachineLent) (e : lent ≡ machineLent machine (length result) due)
@@ -29,21 +30,21 @@ module _ (machine result : List ℕ) (due : ℕ) (lent : MachineLent) (e : lent 
       → let comes = codeIf (lentFormed machineSize due (length machine) (length result)) code in
       (number ≡ comes) × (machine′ ≡ afterCall comes words machine) × (result′ ≡ afterCall comes counts result)
   ended g =
-      let f = machine-formed machine (length result) due lent e n in
+      let f = lent-fits (machine-tested machine (length result) due lent e) n in
       ends-fitting _ f machineSize due _ _ _ machine result _ _ _ (lent-tests machineSize due (length machine) (length result) f) g
 
 module _ (memory waits machine : List ℕ) (count : ℕ) (result : List ℕ) (lent : MachineLent)
     (e : lent ≡ machineLent machine (length result) runPlaces) where
   pub run-misfit : not (lent .formed) ≡ true → RunCall memory waits machine count result memory machine result misfit
   run-misfit n =
-      let f = machine-misfits machine (length result) runPlaces lent e n in
+      let f = lent-misfits (machine-tested machine (length result) runPlaces lent e) n in
       record { returned = rw f; words = rw f; parts = rw f; numbers = rw f }
 
   pub run-formed : not (lent .formed) ≡ false → (r : RunResult) (memory′ : List ℕ) → Runs memory waits (lent .machine) count memory′ r
       → (machine′ result′ : List ℕ) (number : ℕ) → RunEnds r machine result machine′ result′ number
       → RunCall memory waits machine count result memory′ machine′ result′ number
   run-formed n r memory′ runs machine′ result′ number g =
-      let f = machine-formed machine (length result) runPlaces lent e n in
+      let f = lent-fits (machine-tested machine (length result) runPlaces lent e) n in
       let start = machine-start machine (length result) runPlaces lent e n in
       let same = rw start at (runs .result) in
       let ends = ended machine result runPlaces lent e n g in
@@ -58,7 +59,7 @@ module _ (memory journal machine : List ℕ) (count : ℕ) (result : List ℕ) (
     (e : lent ≡ machineLent machine (length result) runPlaces) where
   pub file-misfit : not (lent .formed) ≡ true → FileCall memory journal machine count result memory journal machine result misfit
   file-misfit n =
-      let f = machine-misfits machine (length result) runPlaces lent e n in
+      let f = lent-misfits (machine-tested machine (length result) runPlaces lent e) n in
       record { returned = rw f; words = rw f; places = rw f; parts = rw f; numbers = rw f }
 
   pub file-formed : not (lent .formed) ≡ false → (r : FileResult) (memory′ journal′ : List ℕ)
@@ -66,7 +67,7 @@ module _ (memory journal machine : List ℕ) (count : ℕ) (result : List ℕ) (
       → FileEnds r machine result machine′ result′ number
       → FileCall memory journal machine count result memory′ journal′ machine′ result′ number
   file-formed n r memory′ journal′ runs machine′ result′ number g =
-      let f = machine-formed machine (length result) runPlaces lent e n in
+      let f = lent-fits (machine-tested machine (length result) runPlaces lent e) n in
       let start = machine-start machine (length result) runPlaces lent e n in
       let same = rw start at (runs .result) in
       let ends = ended machine result runPlaces lent e n g in
@@ -81,14 +82,14 @@ module _ (memory journal machine : List ℕ) (count : ℕ) (result : List ℕ) (
 module _ (memory waits state : List ℕ) (clocks : ℕ) (result : List ℕ) (lent : StateLent) (e : lent ≡ stateLent state (length result)) where
   pub gate-misfit : not (lent .formed) ≡ true → GateCall memory waits state clocks result memory state result misfit
   gate-misfit n =
-      let f = state-misfits state (length result) lent e n in
+      let f = lent-misfits (state-tested state (length result) lent e) n in
       record { returned = rw f; words = rw f; parts = rw f; numbers = rw f }
 
   pub gate-formed : not (lent .formed) ≡ false → (r : GateResult) (memory′ : List ℕ) → GateRuns memory waits (lent .state) clocks memory′ r
       → (state′ result′ : List ℕ) (number : ℕ) → GateEnds r state result state′ result′ number
       → GateCall memory waits state clocks result memory′ state′ result′ number
   gate-formed n r memory′ runs state′ result′ number g =
-      let f = state-formed state (length result) lent e n in
+      let f = lent-fits (state-tested state (length result) lent e) n in
       let start = state-start state (length result) lent e n in
       let same = rw start at (runs .result) in
       let h = lent-tests stateSize countPlaces (length state) (length result) f in
@@ -103,14 +104,14 @@ module _ (memory waits state : List ℕ) (clocks : ℕ) (result : List ℕ) (len
 module _ (bytes memory machine result : List ℕ) (lent : MachineLent) (e : lent ≡ machineLent machine (length result) countPlaces) where
   pub read-misfit : not (lent .formed) ≡ true → ReadCall bytes memory machine result memory machine result misfit
   read-misfit n =
-      let f = machine-misfits machine (length result) countPlaces lent e n in
+      let f = lent-misfits (machine-tested machine (length result) countPlaces lent e) n in
       record { returned = rw f; words = rw f; parts = rw f; numbers = rw f }
 
   pub read-formed : not (lent .formed) ≡ false → (r : ReadResult) (memory′ : List ℕ) → Reads bytes memory memory′ r
       → (machine′ result′ : List ℕ) (number : ℕ) → ReadEnds r machine result machine′ result′ number
       → ReadCall bytes memory machine result memory′ machine′ result′ number
   read-formed n r memory′ reads machine′ result′ number g =
-      let f = machine-formed machine (length result) countPlaces lent e n in
+      let f = lent-fits (machine-tested machine (length result) countPlaces lent e) n in
       let same = reads .result in
       let ends = ended machine result countPlaces lent e n g in
       record {
@@ -123,13 +124,13 @@ module _ (bytes memory machine result : List ℕ) (lent : MachineLent) (e : lent
 module _ (memory machine out result : List ℕ) (lent : MachineLent) (e : lent ≡ machineLent machine (length result) countPlaces) where
   pub write-misfit : not (lent .formed) ≡ true → WriteCall memory machine out result out result misfit
   write-misfit n =
-      let f = machine-misfits machine (length result) countPlaces lent e n in
+      let f = lent-misfits (machine-tested machine (length result) countPlaces lent e) n in
       record { returned = rw f; bytes = rw f; numbers = rw f }
 
   pub write-formed : not (lent .formed) ≡ false → (r : WriteAnswer) (out′ : List ℕ) → Writes memory (lent .machine) out out′ r
       → (result′ : List ℕ) (number : ℕ) → WriteEnds r result result′ number → WriteCall memory machine out result out′ result′ number
   write-formed n r out′ writes result′ number g =
-      let f = machine-formed machine (length result) countPlaces lent e n in
+      let f = lent-fits (machine-tested machine (length result) countPlaces lent e) n in
       let start = machine-start machine (length result) countPlaces lent e n in
       let same = rw start at (writes .result) in
       let h = lent-tests machineSize countPlaces (length machine) (length result) f in

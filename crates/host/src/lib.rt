@@ -1,5 +1,5 @@
-// The exported calls, for C, Rust and Python: numbers and slices alone. The crate host_reading has the layout of what is lent, host_ends
-// the codes that are returned; specs/Calls.antt says what each call leaves.
+// The exported calls, for C, Rust and Python: numbers and slices alone. The crate host_reading has the layout of what is lent,
+// host_calls the codes that are returned and what each call leaves.
 use host_ends::MISFIT;
 use host_ends::end_file_run;
 use host_ends::end_gate_run;
@@ -10,7 +10,7 @@ use host_reading::COUNT_PLACES;
 use host_reading::RUN_PLACES;
 use host_reading::machine_lent;
 use host_reading::state_lent;
-ghost use Rattle.host.specs.Calls.{RunCall, FileCall, GateCall, ReadCall, WriteCall};
+ghost use Rattle.host_calls.specs.Calls.{RunCall, FileCall, GateCall, ReadCall, WriteCall};
 
 // A run of the interpreter. `result`: instructions that ran, clock total.
 #[no_mangle]
@@ -27,8 +27,8 @@ pub extern "C" fn fm8502_run(
     if !lent.formed {
         return MISFIT;
     }
-    let r = interpreter::run(&mut *memory, waits, lent.machine, count);
-    end_run(r, &mut *machine, &mut *result)
+    let r = interpreter::run(memory, waits, lent.machine, count);
+    end_run(r, machine, result)
 }
 
 // A file run. `result`: instructions that ran, pairs in the journal.
@@ -46,8 +46,8 @@ pub extern "C" fn fm8502_file_run(
     if !lent.formed {
         return MISFIT;
     }
-    let r = interpreter::file_run(&mut *memory, &mut *journal, lent.machine, count);
-    end_file_run(r, &mut *machine, &mut *result)
+    let r = interpreter::file_run(memory, journal, lent.machine, count);
+    end_file_run(r, machine, result)
 }
 
 // A gate run. `result`: instructions finished.
@@ -65,8 +65,8 @@ pub extern "C" fn fm8502_gate_run(
     if !lent.formed {
         return MISFIT;
     }
-    let r = gate_machine::run(&mut *memory, waits, lent.state, clocks);
-    end_gate_run(r, &mut *state, &mut *result)
+    let r = gate_machine::run(memory, waits, lent.state, clocks);
+    end_gate_run(r, state, result)
 }
 
 // One clock. `result`: instructions finished.
@@ -79,7 +79,7 @@ pub extern "C" fn fm8502_clock(
 ) -> u32
     ensures { λ r. ⌜ GateCall (now (memory .entry)) (now (waits .entry)) (now (state .entry)) 1 (now (result .entry)) (now (memory .exit)) (now (state .exit)) (now (result .exit)) r ⌝ }
 {
-    fm8502_gate_run(&mut *memory, waits, &mut *state, 1, &mut *result)
+    fm8502_gate_run(memory, waits, state, 1, result)
 }
 
 // Reads an image: its words to the front of `memory`, its machine. `result`: the image's words.
@@ -96,8 +96,8 @@ pub extern "C" fn fm8502_image_read(
     if !lent.formed {
         return MISFIT;
     }
-    let r = image_reader::read(bytes, &mut *memory);
-    end_read(r, &mut *machine, &mut *result)
+    let r = image_reader::read(bytes, memory);
+    end_read(r, machine, result)
 }
 
 // Writes the image of a machine and its memory to the front of `out`. `result`: the image's bytes.
@@ -114,6 +114,6 @@ pub extern "C" fn fm8502_image_write(
     if !lent.formed {
         return MISFIT;
     }
-    let r = image_writer::write(memory, lent.machine, &mut *out);
-    end_write(r, &mut *result)
+    let r = image_writer::write(memory, lent.machine, out);
+    end_write(r, result)
 }

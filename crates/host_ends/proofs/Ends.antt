@@ -15,7 +15,8 @@ use Rattle.image.specs.declared.ReadResult.{ReadResult}
 use Rattle.image.specs.declared.WriteAnswer.{WriteAnswer}
 use Rattle.host_reading.specs.Layout.{countPlaces, machineSize, stateSize}
 use Rattle.host_words.specs.Words.{machineWords, stateWords, laid}
-use Rattle.host_ends.specs.Codes.{done, stopped, carriedOut, gateCounts, Ends, GateEnds, ReadEnds, WriteEnds}
+use Rattle.host_calls.specs.Codes.{done, stopped, carriedOut, gateCounts}
+use Rattle.host_ends.specs.Ends.{Ends, GateEnds, ReadEnds, WriteEnds}
 
 -- a refusal's number is no code of a call that was carried out
 turned-down : (why : Refusal) → carriedOut (refusalNumber why) ≡ false

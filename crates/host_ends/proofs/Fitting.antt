@@ -5,7 +5,8 @@ use mathlib.Core.Bool.{Bool, true}
 use mathlib.Core.List.{List}
 use lib.Dec.{eqb}
 use lib.ListN.{length}
-use Rattle.host_ends.specs.Codes.{codeIf, afterCall, Ends}
+use Rattle.host_calls.specs.Codes.{codeIf, afterCall}
+use Rattle.host_ends.specs.Ends.{Ends}
 
 module _ (formed : Bool) (f : formed ≡ true) (size due code : ℕ) (words counts lent result lent′ result′ : List ℕ) (number : ℕ) where
   pub ends-fitting : (eqb (length lent) size ≡ true) × (eqb (length result) due ≡ true)

@@ -4,7 +4,7 @@ use interpreter::FileAnswer;
 use interpreter::RunAnswer;
 use refusals::refusal_number;
 ghost use mathlib.Core.Path.{_≡_};
-ghost use Rattle.host_ends.specs.Codes.{runCode, fileCode};
+ghost use Rattle.host_calls.specs.Codes.{runCode, fileCode};
 
 pub const DONE: u32 = 0;
 

@@ -23,7 +23,7 @@ use refusals::refusal_number;
 ghost use mathlib.Core.List.{[], _∷_};
 ghost use Rattle.host_reading.specs.Layout.{runPlaces, machineSize};
 ghost use Rattle.host_words.specs.Words.{machineWords};
-ghost use Rattle.host_ends.specs.Codes.{Ends, RunEnds, FileEnds, GateEnds, ReadEnds, WriteEnds};
+ghost use Rattle.host_ends.specs.Ends.{Ends, RunEnds, FileEnds, GateEnds, ReadEnds, WriteEnds};
 
 // The end of a call that counts instructions: its machine, the instructions that ran, and its other number.
 fn end_counted(
@@ -37,8 +37,8 @@ fn end_counted(
     ensures { λ r. ⌜ Ends code machineSize (machineWords m) runPlaces (ran ∷ other ∷ []) (now (machine .entry)) (now (result .entry)) (now (machine .exit)) (now (result .exit)) r ⌝ }
 {
     if (code == DONE) | (code == STOPPED) {
-        put_machine(m, &mut *machine);
-        put_two(ran as u64, other, &mut *result);
+        put_machine(m, machine);
+        put_two(ran as u64, other, result);
     }
     code
 }
@@ -48,14 +48,7 @@ pub fn end_run(r: RunResult, machine: &mut [u32], result: &mut [u64]) -> u32
 {
     let answer = r.answer;
     let code = run_code(answer);
-    end_counted(
-        code,
-        r.machine,
-        r.ran,
-        r.clocks,
-        &mut *machine,
-        &mut *result,
-    )
+    end_counted(code, r.machine, r.ran, r.clocks, machine, result)
 }
 
 pub fn end_file_run(r: FileResult, machine: &mut [u32], result: &mut [u64]) -> u32
@@ -63,14 +56,7 @@ pub fn end_file_run(r: FileResult, machine: &mut [u32], result: &mut [u64]) -> u
 {
     let answer = r.answer;
     let code = file_code(answer);
-    end_counted(
-        code,
-        r.machine,
-        r.ran,
-        r.pairs as u64,
-        &mut *machine,
-        &mut *result,
-    )
+    end_counted(code, r.machine, r.ran, r.pairs as u64, machine, result)
 }
 
 pub fn end_gate_run(r: GateResult, state: &mut [u32], result: &mut [u64]) -> u32
@@ -81,8 +67,8 @@ pub fn end_gate_run(r: GateResult, state: &mut [u32], result: &mut [u64]) -> u32
     match answer {
         GateAnswer::Refused(why) => refusal_number(why),
         GateAnswer::Ran => {
-            put_state(r.state, &mut *state);
-            put_one(outcome.finished, &mut *result);
+            put_state(r.state, state);
+            put_one(outcome.finished, result);
             DONE
         }
     }
@@ -95,8 +81,8 @@ pub fn end_read(r: ReadResult, machine: &mut [u32], result: &mut [u64]) -> u32
     match answer {
         ReadAnswer::Refused(why) => refusal_number(why),
         ReadAnswer::Loaded(words) => {
-            put_machine(r.machine, &mut *machine);
-            put_one(words as u64, &mut *result);
+            put_machine(r.machine, machine);
+            put_one(words as u64, result);
             DONE
         }
     }
@@ -108,7 +94,7 @@ pub fn end_write(r: WriteAnswer, result: &mut [u64]) -> u32
     match r {
         WriteAnswer::Refused(why) => refusal_number(why),
         WriteAnswer::Written(size) => {
-            put_one(size as u64, &mut *result);
+            put_one(size as u64, result);
             DONE
         }
     }

@@ -14,11 +14,11 @@ pub fn put_one(x: u64, result: &mut [u64])
     }
 }
 
-pub fn put_two(x: u64, y: u64, result: &mut [u64])
-    ensures { λ _. ⌜ now (result .exit) ≡ laid runPlaces (x ∷ y ∷ []) (now (result .entry)) ⌝ }
+pub fn put_two(first: u64, second: u64, result: &mut [u64])
+    ensures { λ _. ⌜ now (result .exit) ≡ laid runPlaces (first ∷ second ∷ []) (now (result .entry)) ⌝ }
 {
     if result.len() == RUN_PLACES {
-        result[0] = x;
-        result[1] = y;
+        result[0] = first;
+        result[1] = second;
     }
 }

@@ -28,35 +28,29 @@ pub state-lent-from : (words : List ℕ) (places : ℕ) (s : GateState) (formed 
 unfolding stateLent
 state-lent-from words places s formed f e = rw (e, f)
 
--- a call that is turned down, and one that goes on from the words that it was lent
+-- a call that is turned down, and one that goes on, by the truth that it tests
+module _ {formed fits : Bool} (tested : formed ≡ fits) where
+  pub lent-misfits : not formed ≡ true → fits ≡ false
+  lent-misfits n = sym tested ∙ not-true _ n
+
+  pub lent-fits : not formed ≡ false → fits ≡ true
+  lent-fits n = sym tested ∙ not-false _ n
+
+-- that truth, and the machine or state that a call goes on from
 module _ (words : List ℕ) (places due : ℕ) (r : MachineLent) (e : r ≡ machineLent words places due) where
-  tested : r .formed ≡ lentFormed machineSize due (length words) places
+  pub machine-tested : r .formed ≡ lentFormed machineSize due (length words) places
   unfolding machineLent
-  tested = ap (λ (l : MachineLent). l .formed) e
+  machine-tested = ap (λ (l : MachineLent). l .formed) e
 
-  pub machine-misfits : not (r .formed) ≡ true → lentFormed machineSize due (length words) places ≡ false
-  machine-misfits n = sym tested ∙ not-true _ n
-
-  module _ (n : not (r .formed) ≡ false) where
-    pub machine-formed : lentFormed machineSize due (length words) places ≡ true
-    machine-formed = sym tested ∙ not-false _ n
-
-    pub machine-start : r .machine ≡ machineIn words
-    unfolding machineLent
-    machine-start = ap (λ (l : MachineLent). l .machine) e ∙ rw machine-formed
+  pub machine-start : not (r .formed) ≡ false → r .machine ≡ machineIn words
+  unfolding machineLent
+  machine-start n = ap (λ (l : MachineLent). l .machine) e ∙ rw (lent-fits machine-tested n)
 
 module _ (words : List ℕ) (places : ℕ) (r : StateLent) (e : r ≡ stateLent words places) where
-  state-tested : r .formed ≡ lentFormed stateSize countPlaces (length words) places
+  pub state-tested : r .formed ≡ lentFormed stateSize countPlaces (length words) places
   unfolding stateLent
   state-tested = ap (λ (l : StateLent). l .formed) e
 
-  pub state-misfits : not (r .formed) ≡ true → lentFormed stateSize countPlaces (length words) places ≡ false
-  state-misfits n = sym state-tested ∙ not-true _ n
-
-  module _ (n : not (r .formed) ≡ false) where
-    pub state-formed : lentFormed stateSize countPlaces (length words) places ≡ true
-    state-formed = sym state-tested ∙ not-false _ n
-
-    pub state-start : r .state ≡ stateIn words
-    unfolding stateLent
-    state-start = ap (λ (l : StateLent). l .state) e ∙ rw state-formed
+  pub state-start : not (r .formed) ≡ false → r .state ≡ stateIn words
+  unfolding stateLent
+  state-start n = ap (λ (l : StateLent). l .state) e ∙ rw (lent-fits state-tested n)

@@ -27,7 +27,7 @@ pub fn put_machine(m: Machine, machine: &mut [u32])
     ensures { λ _. ⌜ now (machine .exit) ≡ laid machineSize (machineWords m) (now (machine .entry)) ⌝ }
 {
     if machine.len() == MACHINE_SIZE {
-        copy_words(&machine_words(m), &mut *machine);
+        copy_words(&machine_words(m), machine);
     }
 }
 

@@ -17,14 +17,14 @@ use Rattle.model.specs.Refusals.{verdictNumber, leftBy, runVerdict, fileVerdict
 use Rattle.model.proofs.Stores.{overlaid}
 use Rattle.model.proofs.Runs.{pairs-le, words-length}
 use Rattle.model.proofs.Verdicts.{room-for-all}
+use Rattle.engine.specs.declared.Ended.{Ended}
+use Rattle.engine.specs.Engine.{EngineEnds}
 use Rattle.journal.specs.Undo.{undone}
 use Rattle.journal.proofs.Journals.{back}
 use Rattle.interpreter.specs.declared.RunAnswer.{RunAnswer}
 use Rattle.interpreter.specs.declared.RunResult.{RunResult}
 use Rattle.interpreter.specs.declared.FileAnswer.{FileAnswer}
 use Rattle.interpreter.specs.declared.FileResult.{FileResult}
-use Rattle.interpreter.specs.declared.engine.Ended.{Ended}
-use Rattle.interpreter.specs.Engine.{EngineEnds}
 use Rattle.interpreter.specs.Calls.{runAnswer, runResult, runNumber, runReturned, runWords, Runs}
 use Rattle.interpreter.specs.Calls.{fileEnd, fileResult, memoryEnd, fileNumber, fileReturned, fileWords, filePlaces, FileRuns}
 

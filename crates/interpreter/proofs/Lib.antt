@@ -1,3 +1,1 @@
-mod Spending
-mod Turns
 pub mod Answers

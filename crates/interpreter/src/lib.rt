@@ -1,7 +1,4 @@
 // The interpreter: runs of whole instructions with waits and clocks, and the file run with its undo journal.
-mod clocks;
-mod engine;
-
 use engine::engine;
 use journal::undo;
 use model::Ending;
@@ -62,7 +59,7 @@ pub fn run(memory: &mut [u32], waits: &[u16], start: Machine, count: u32) -> Run
         },
         Verdict::Accepted => {
             let mut none: [u32; 0] = [];
-            let e = engine(&mut *memory, waits, &mut none, start, count);
+            let e = engine(memory, waits, &mut none, start, count);
             let machine = e.machine;
             let ending = e.ending;
             let ran = e.ran;
@@ -89,7 +86,7 @@ pub fn file_run(memory: &mut [u32], journal: &mut [u32], start: Machine, count: 
         },
         Verdict::Accepted => {
             let none: [u16; 0] = [];
-            let e = engine(&mut *memory, &none, &mut *journal, start, count);
+            let e = engine(memory, &none, journal, start, count);
             let ending = e.ending;
             match ending {
                 Ending::Finished => {
@@ -102,7 +99,7 @@ pub fn file_run(memory: &mut [u32], journal: &mut [u32], start: Machine, count: 
                     }
                 }
                 Ending::Outside => {
-                    undo(&mut *memory, &*journal, e.pairs);
+                    undo(memory, &*journal, e.pairs);
                     FileResult {
                         answer: FileAnswer::Undone,
                         machine: start,

@@ -1,7 +1,6 @@
 // Taking a run's stores to memory back, from its journal of addresses and former words.
 use operands::load;
 use operands::store;
-use operands::wide;
 ghost use mathlib.Core.Path.{_≡_};
 ghost use Prim.Native.Nat.{_+_, _^_, _<_};
 ghost use Rattle.model.specs.Words.{wordAt, storeWord};
@@ -14,12 +13,12 @@ fn put_back(memory: &mut [u32], journal: &[u32], at: usize)
 {
     let second = at + 1;
     if second < journal.len() {
-        store(&mut *memory, wide(journal[at]), journal[second]);
+        store(memory, journal[at] as usize, journal[second]);
         return;
     }
     let address = load(journal, at);
     let former = load(journal, second);
-    store(&mut *memory, wide(address), former);
+    store(memory, address as usize, former);
 }
 
 // Puts the former words back, the last store first.
@@ -29,6 +28,6 @@ pub fn undo(memory: &mut [u32], journal: &[u32], pairs: u32)
     let mut k = pairs;
     while 0 < k {
         k -= 1;
-        put_back(&mut *memory, journal, 2 * wide(k));
+        put_back(memory, journal, 2 * (k as usize));
     }
 }

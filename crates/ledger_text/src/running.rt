@@ -7,15 +7,23 @@ use interpreter::run;
 use model::Ending;
 use model::Machine;
 use operands::load;
-use operands::wide;
+ghost use mathlib.Core.Path.{_≡_};
 ghost use mathlib.Core.List.{[]};
 ghost use Prim.Native.Nat.{_≤_, _<_};
 ghost use lib.ListN.{length};
+ghost use Rattle.model.specs.Words.{wordAt};
 ghost use Rattle.model.specs.Refusals.{mostWords};
 ghost use Rattle.interpreter.specs.Calls.{Runs};
 ghost use Rattle.ledger_text.specs.Parts.{RunPuts};
 
 const MOST_LINES: u64 = 16;
+
+// The word at an address.
+fn word_under(memory: &[u32], address: u32) -> u32
+    ensures { λ r. ⌜ r ≡ wordAt (now (memory .entry)) address ⌝ }
+{
+    load(memory, address as usize)
+}
 
 fn run_one(memory: &mut [u32], machine: Machine) -> RunResult
     ensures { λ r. ⌜ Runs (now (memory .entry)) [] machine 1 (now (memory .exit)) r ⌝ }
@@ -35,7 +43,7 @@ pub fn put_run(memory: &mut [u32], start: Machine, out: &mut [u8]) -> usize
     let mut clocks = 0;
     while ran < MOST_LINES {
         let address = machine.regs[0];
-        let word = load(&*memory, wide(address));
+        let word = word_under(&*memory, address);
         let step = run_one(memory, machine);
         // A run on an image's words is never refused: what did not run came outside.
         if step.ran == 0 {

@@ -21,11 +21,10 @@ flags-le f = (bit-le (f .carry), bit-le (f .overflow), bit-le (f .negative), bit
 pub unpacks : (f : Flags) → flagsOf (packedOf f) ≡ f
 unfolding flagsOf packedOf bit field
 unpacks f =
-    let l = flags-le f in
-    let c = l .0 in
-    let v = l .1 in
-    let n = l .2 in
-    let z = l .3 in
+    let c = bit-le (f .carry) in
+    let v = bit-le (f .overflow) in
+    let n = bit-le (f .negative) in
+    let z = bit-le (f .zero) in
     rw (
       digit-bit (f .carry) {x = packedOf f / 8 % 2} (omega arith),
       digit-bit (f .overflow) {x = packedOf f / 4 % 2} (omega arith),

@@ -4,8 +4,6 @@ mod operand;
 
 pub use memory::load;
 pub use memory::store;
-pub use memory::wide;
 pub use operand::in_memory;
 pub use operand::operand_a;
 pub use operand::operand_b;
-pub use operand::register_of;

@@ -2,13 +2,6 @@
 ghost use mathlib.Core.Path.{_≡_};
 ghost use Rattle.model.specs.Words.{wordAt, storeWord};
 
-// An address as an index.
-pub fn wide(x: u32) -> usize
-    ensures { λ r. ⌜ r ≡ x ⌝ }
-{
-    x as usize
-}
-
 // The word at an address; 0 where that is absent.
 pub fn load(memory: &[u32], i: usize) -> u32
     ensures { λ r. ⌜ r ≡ wordAt (now (memory .entry)) i ⌝ }

@@ -1,7 +1,7 @@
-// Operands: decoding, the register that each carries, and whether it is in memory.
+// Operands: decoding, and whether each is in memory.
 use model::Operand;
 ghost use mathlib.Core.Path.{_≡_};
-ghost use Rattle.model.specs.Operands.{operand, operandA, operandB, registerOf, inMemory};
+ghost use Rattle.model.specs.Operands.{operand, operandA, operandB, inMemory};
 
 fn decoded(mode: u32, register: u8) -> Operand
     ensures { λ r. ⌜ r ≡ operand mode register ⌝ }
@@ -25,18 +25,6 @@ pub fn operand_b(word: u32) -> Operand
     ensures { λ r. ⌜ r ≡ operandB word ⌝ }
 {
     decoded(word / 256 % 4, (word / 32 % 8) as u8)
-}
-
-// Only the low three bits of a register's number count.
-pub fn register_of(o: Operand) -> u8
-    ensures { λ r. ⌜ r ≡ registerOf o ⌝ }
-{
-    match o {
-        Operand::Direct(r) => r % 8,
-        Operand::Indirect(r) => r % 8,
-        Operand::Before(r) => r % 8,
-        Operand::After(r) => r % 8,
-    }
 }
 
 pub fn in_memory(o: Operand) -> bool

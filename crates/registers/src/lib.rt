@@ -1,11 +1,22 @@
 // An operand's register: its word, a store into it, its steps before and after the access; the program counter's step. Leaves that both
 // engines use.
 use model::Operand;
-use operands::register_of;
 ghost use mathlib.Core.Path.{_≡_};
 ghost use Prim.Native.Nat.{_<_};
 ghost use Rattle.model.specs.Words.{inc, dec};
-ghost use Rattle.model.specs.Operands.{stepped, stepDown, stepUp, registerWord, setRegister};
+ghost use Rattle.model.specs.Operands.{registerOf, stepped, stepDown, stepUp, registerWord, setRegister};
+
+// Only the low three bits of a register's number count.
+fn register_of(o: Operand) -> u8
+    ensures { λ r. ⌜ r ≡ registerOf o ⌝ }
+{
+    match o {
+        Operand::Direct(r) => r % 8,
+        Operand::Indirect(r) => r % 8,
+        Operand::Before(r) => r % 8,
+        Operand::After(r) => r % 8,
+    }
+}
 
 pub fn register_word(o: Operand, regs: &[u32; 8]) -> u32
     ensures { λ r. ⌜ r ≡ registerWord o (now (regs .entry)) ⌝ }
@@ -51,7 +62,7 @@ pub fn step_down(o: Operand, regs: &mut [u32; 8])
     match o {
         Operand::Direct(_) => {}
         Operand::Indirect(_) => {}
-        Operand::Before(r) => decrement((r % 8) as usize, &mut *regs),
+        Operand::Before(r) => decrement((r % 8) as usize, regs),
         Operand::After(_) => {}
     }
 }
@@ -64,6 +75,6 @@ pub fn step_up(o: Operand, regs: &mut [u32; 8])
         Operand::Direct(_) => {}
         Operand::Indirect(_) => {}
         Operand::Before(_) => {}
-        Operand::After(r) => increment((r % 8) as usize, &mut *regs),
+        Operand::After(r) => increment((r % 8) as usize, regs),
     }
 }

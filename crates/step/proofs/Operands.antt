@@ -11,12 +11,12 @@ use Rattle.model.specs.Words.{wordAt}
 use Rattle.model.specs.Operands.{inMemory, registerWord}
 use Rattle.step.specs.Steps.{takenOf}
 
-pub taken-memory : (o : Operand) (regs memory : List ℕ) {w i x : ℕ} → inMemory o ≡ true → w ≡ registerWord o regs → i ≡ w → x ≡ wordAt memory i
-    → record { present = ltb i (length memory); word = w; value = x } ≡ takenOf o regs memory
-taken-memory (Indirect r) regs memory m p q e = rw (e, q, p)
-taken-memory (Before r) regs memory m p q e = rw (e, q, p)
-taken-memory (After r) regs memory m p q e = rw (e, q, p)
-taken-memory (Direct r) regs memory m p q e = cc
+pub taken-memory : (o : Operand) (regs memory : List ℕ) {w x : ℕ} → inMemory o ≡ true → w ≡ registerWord o regs → x ≡ wordAt memory w
+    → record { present = ltb w (length memory); word = w; value = x } ≡ takenOf o regs memory
+taken-memory (Indirect r) regs memory m p e = rw (e, p)
+taken-memory (Before r) regs memory m p e = rw (e, p)
+taken-memory (After r) regs memory m p e = rw (e, p)
+taken-memory (Direct r) regs memory m p e = cc
 
 pub taken-direct : (o : Operand) (regs memory : List ℕ) {w : ℕ} → inMemory o ≡ false → w ≡ registerWord o regs
     → record { present = true; word = w; value = w } ≡ takenOf o regs memory

@@ -54,11 +54,11 @@ module _ {f : Fetched} {x pairs : ℕ} {regs memory journal : List ℕ} {t : Boo
   pub puts-none : t ≡ false → PutsWord t f x pairs regs memory journal regs memory journal pairs
   puts-none e = record { registers = rw e; words = rw e; places = rw e; count = rw e }
 
-  pub puts-memory : t ≡ true → inMemory (f .ob) ≡ true → {i r : ℕ} {memory′ journal′ : List ℕ}
-      → i ≡ f .address → memory′ ≡ storeWord memory i x → Notes journal pairs (f .address) (f .b) journal′ r
+  pub puts-memory : t ≡ true → inMemory (f .ob) ≡ true → {r : ℕ} {memory′ journal′ : List ℕ}
+      → memory′ ≡ storeWord memory (f .address) x → Notes journal pairs (f .address) (f .b) journal′ r
       → PutsWord t f x pairs regs memory journal regs memory′ journal′ r
-  puts-memory e m p q n =
-      record { registers = rw (e, m); words = rw (e, m, q, p); places = rw (e, m) (n .places); count = rw (e, m) (n .count) }
+  puts-memory e m q n =
+      record { registers = rw (e, m); words = rw (e, m) q; places = rw (e, m) (n .places); count = rw (e, m) (n .count) }
 
   pub puts-register : t ≡ true → inMemory (f .ob) ≡ false → {regs′ : List ℕ} → regs′ ≡ setRegister (f .ob) x regs
       → PutsWord t f x pairs regs memory journal regs′ memory journal pairs

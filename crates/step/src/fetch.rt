@@ -3,7 +3,6 @@ use super::take::take;
 use model::Operand;
 use operands::operand_a;
 use operands::operand_b;
-use operands::wide;
 use registers::register_word;
 use registers::set_register;
 use registers::step_pc;
@@ -19,6 +18,13 @@ pub struct Fetched {
     pub a: u32,
     pub b: u32,
     pub address: u32,
+}
+
+// An address as an index.
+fn index(address: u32) -> usize
+    ensures { λ r. ⌜ r ≡ address ⌝ }
+{
+    address as usize
 }
 
 fn absent() -> Fetched
@@ -40,23 +46,23 @@ pub fn fetch(regs: &mut [u32; 8], memory: &[u32]) -> Fetched
     ensures { λ r. ⌜ Fetches (now (regs .entry)) (now (memory .entry)) (now (regs .exit)) r ⌝ }
 {
     let pc = regs[0];
-    let at = wide(pc);
+    let at = index(pc);
     if memory.len() <= at {
         return absent();
     }
     let word = memory[at];
-    step_pc(&mut *regs);
+    step_pc(regs);
     let oa = operand_a(word);
     let old_a = register_word(oa, &*regs);
-    let a = take(oa, &mut *regs, memory);
+    let a = take(oa, regs, memory);
     if !a.present {
         regs[0] = pc;
         return absent();
     }
     let ob = operand_b(word);
-    let b = take(ob, &mut *regs, memory);
+    let b = take(ob, regs, memory);
     if !b.present {
-        set_register(oa, old_a, &mut *regs);
+        set_register(oa, old_a, regs);
         regs[0] = pc;
         return absent();
     }

@@ -25,17 +25,9 @@ pub fn finish(
     let stored = stores_packed(word, flags);
     let out = unit_of(word, flags, f.a, f.b);
     let after = flags_after_packed(word, flags, out);
-    let noted = put(
-        stored,
-        f,
-        out.result,
-        pairs,
-        &mut *regs,
-        &mut *memory,
-        &mut *journal,
-    );
-    step_up(oa, &mut *regs);
-    step_up(ob, &mut *regs);
+    let noted = put(stored, f, out.result, pairs, regs, memory, journal);
+    step_up(oa, regs);
+    step_up(ob, regs);
     Stepped {
         inside: true,
         flags: after,

@@ -46,9 +46,9 @@ pub fn step(
 ) -> Stepped
     ensures { λ r. ⌜ Steps (now (regs .entry)) (now (memory .entry)) (now (journal .entry)) pairs flags (now (regs .exit)) (now (memory .exit)) (now (journal .exit)) r ⌝ }
 {
-    let f = fetch(&mut *regs, &*memory);
+    let f = fetch(regs, &*memory);
     if f.inside {
-        return finish(&mut *regs, &mut *memory, &mut *journal, pairs, flags, f);
+        return finish(regs, memory, journal, pairs, flags, f);
     }
     outside(flags, pairs)
 }

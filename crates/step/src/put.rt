@@ -2,7 +2,6 @@
 use super::fetch::Fetched;
 use operands::in_memory;
 use operands::store;
-use operands::wide;
 use registers::set_register;
 ghost use Rattle.step.specs.Steps.{Notes, PutsWord};
 
@@ -10,9 +9,9 @@ ghost use Rattle.step.specs.Steps.{Notes, PutsWord};
 fn note(journal: &mut [u32], pairs: u32, address: u32, former: u32) -> u32
     ensures { λ r. ⌜ Notes (now (journal .entry)) pairs address former (now (journal .exit)) r ⌝ }
 {
-    let at = 2 * wide(pairs);
-    store(&mut *journal, at, address);
-    store(&mut *journal, at + 1, former);
+    let at = 2 * (pairs as usize);
+    store(journal, at, address);
+    store(journal, at + 1, former);
     std::num::wrapping_add_u32(pairs, 1)
 }
 
@@ -33,9 +32,9 @@ pub fn put(
     }
     let ob = f.ob;
     if in_memory(ob) {
-        store(&mut *memory, wide(f.address), x);
-        return note(&mut *journal, pairs, f.address, f.b);
+        store(memory, f.address as usize, x);
+        return note(journal, pairs, f.address, f.b);
     }
-    set_register(ob, x, &mut *regs);
+    set_register(ob, x, regs);
     pairs
 }

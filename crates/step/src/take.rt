@@ -2,7 +2,6 @@
 use model::Operand;
 use operands::in_memory;
 use operands::load;
-use operands::wide;
 use registers::register_word;
 use registers::set_register;
 use registers::step_down;
@@ -21,7 +20,7 @@ fn look(o: Operand, regs: &[u32; 8], memory: &[u32]) -> Taken
 {
     let word = register_word(o, regs);
     if in_memory(o) {
-        let i = wide(word);
+        let i = word as usize;
         Taken {
             present: i < memory.len(),
             word,
@@ -41,11 +40,11 @@ pub fn take(o: Operand, regs: &mut [u32; 8], memory: &[u32]) -> Taken
     ensures { λ r. ⌜ Takes o (now (regs .entry)) (now (memory .entry)) (now (regs .exit)) r ⌝ }
 {
     let old = register_word(o, &*regs);
-    step_down(o, &mut *regs);
+    step_down(o, regs);
     let t = look(o, &*regs, memory);
     if t.present {
         return t;
     }
-    set_register(o, old, &mut *regs);
+    set_register(o, old, regs);
     t
 }

@@ -1,8 +1,8 @@
 // What an instruction has the arithmetic unit do.
 use arithmetic::AluOut;
 use arithmetic::word_unit;
-use effects::carry;
 use effects::unit_operation;
+use packed_flags::carry;
 ghost use mathlib.Core.Path.{_≡_};
 ghost use Rattle.model.specs.Alu.{alu};
 ghost use Rattle.model.specs.Packed.{flagsOf};

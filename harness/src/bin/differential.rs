@@ -1,7 +1,7 @@
-//! Compares the proved calls with the reference emulator on generated cases.
+//! Compares the proved calls with the reference emulator on generated and directed cases.
 
 use harness::arguments::{numbers, value};
-use harness::differential::{gates, images, limits, misfits, programs, refusals, Check};
+use harness::differential::{directed, gates, images, limits, misfits, programs, refusals, Check};
 use reference::rng::Rng;
 use std::process::exit;
 
@@ -25,6 +25,7 @@ fn main() {
     each(seed, states, "--states", gates::check_state);
     println!("{states} gate states agree, seed {seed}");
     check_images(seed, images);
+    check_directed(seed);
     check_refusals(seed);
     println!("differential: all agree");
 }
@@ -62,9 +63,25 @@ fn check_images(seed: u64, cases: u64) {
     each(seed, cases, "--images", |rng| {
         images::check(rng, &mut tally)
     });
+    let lengths = settle(
+        images::check_lengths(&mut Rng::new(seed)),
+        &format!("lengths of images, --seed {seed}"),
+    );
     println!(
-        "{} images agree, seed {seed}: {} refused",
+        "{} images agree, seed {seed}: {} refused; and {lengths} at the borders of their fields",
         tally.read, tally.refused
+    );
+}
+
+fn check_directed(seed: u64) {
+    let mut tally = directed::Tally::default();
+    let cases = settle(
+        directed::check(&mut Rng::new(seed), &mut tally),
+        &format!("directed cases, --seed {seed}"),
+    );
+    println!(
+        "{cases} directed cases agree, seed {seed}: {} instructions, {} outside, {} images refused",
+        tally.programs.instructions, tally.programs.outside, tally.images.refused
     );
 }
 

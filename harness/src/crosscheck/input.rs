@@ -2,66 +2,31 @@
 
 use super::Case;
 use crate::case_words::{flag_number, latch_words};
-use reference::generate::program::Program;
-use reference::{GateState, Machine};
+use reference::GateState;
 
 pub fn input(cases: &[Case]) -> Vec<u8> {
     let mut words = Vec::new();
     for case in cases {
-        match case {
-            Case::Program(program) => put_program(&mut words, program),
-            Case::State {
-                memory,
-                waits,
-                state,
-                clocks,
-            } => {
-                words.push(2);
-                put_list(&mut words, memory);
-                put_waits(&mut words, waits);
-                put_state(&mut words, state);
-                words.push(*clocks as u32);
-            }
-            Case::Image { room, bytes } => put_image(&mut words, *room, bytes),
-        }
+        words.push(1);
+        put_case(&mut words, case);
     }
-    words.push(0);
     words.iter().flat_map(|word| word.to_le_bytes()).collect()
 }
 
-fn put_program(words: &mut Vec<u32>, program: &Program) {
-    words.push(1);
-    put_list(words, &program.memory);
-    put_machine(words, &program.start);
-    put_waits(words, &program.waits);
-    words.push(program.count);
+fn put_case(words: &mut Vec<u32>, case: &Case) {
+    put_list(words, &case.memory);
+    put_list(words, &case.waits);
+    put_state(words, &case.state);
+    words.push(case.clocks as u32);
+}
+
+fn put_list<T: Copy + Into<u32>>(words: &mut Vec<u32>, list: &[T]) {
+    words.push(list.len() as u32);
+    words.extend(list.iter().map(|&entry| entry.into()));
 }
 
 fn put_state(words: &mut Vec<u32>, state: &GateState) {
-    put_machine(words, &state.machine());
+    words.extend(state.registers);
+    words.push(flag_number(state.flags));
     words.extend(latch_words(state));
-}
-
-fn put_image(words: &mut Vec<u32>, room: usize, bytes: &[u8]) {
-    words.extend([3, room as u32, bytes.len() as u32]);
-    for four in bytes.chunks(4) {
-        let mut padded = [0; 4];
-        padded[..four.len()].copy_from_slice(four);
-        words.push(u32::from_le_bytes(padded));
-    }
-}
-
-fn put_list(words: &mut Vec<u32>, list: &[u32]) {
-    words.push(list.len() as u32);
-    words.extend(list);
-}
-
-fn put_waits(words: &mut Vec<u32>, waits: &[u16]) {
-    words.push(waits.len() as u32);
-    words.extend(waits.iter().map(|&wait| u32::from(wait)));
-}
-
-fn put_machine(words: &mut Vec<u32>, machine: &Machine) {
-    words.extend(machine.registers);
-    words.push(flag_number(machine.flags));
 }

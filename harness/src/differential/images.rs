@@ -4,6 +4,7 @@ use super::outcome::Outcome;
 use super::{expected, proved, same, Check};
 use crate::text::{hex_bytes, hex_words};
 use reference::generate::image::{any_image, ImageCase};
+use reference::generate::program::any_program;
 use reference::image;
 use reference::rng::Rng;
 
@@ -16,19 +17,48 @@ pub struct Tally {
 
 pub fn check(rng: &mut Rng, tally: &mut Tally) -> Check {
     let ImageCase { bytes, lent, .. } = any_image(rng);
-    let memory: Vec<u32> = (0..lent).map(|_| rng.word()).collect();
-    let proved = proved::image_read(&bytes, &memory);
-    let expected = expected::image_read(&bytes, &memory);
-    same("image read", &proved, &expected, || {
-        let image = hex_bytes(&bytes);
-        format!("image {image}\nlent{}\n", hex_words(&memory))
-    })?;
+    check_image(rng, &bytes, lent, tally)
+}
+
+pub fn check_image(rng: &mut Rng, bytes: &[u8], lent: usize, tally: &mut Tally) -> Check {
     tally.read += 1;
-    if expected.carried_out() {
-        return check_written(rng, &bytes);
+    if check_read(rng, bytes, lent)? {
+        return check_written(rng, bytes);
     }
     tally.refused += 1;
     Ok(())
+}
+
+/// Memories that fill their last field, all but fill it, or begin one more: read
+/// into as many words, more and fewer, and written again. Returns how many.
+pub fn check_lengths(rng: &mut Rng) -> Result<usize, String> {
+    const LENGTHS: [usize; 9] = [1, 2, 1_023, 1_024, 1_025, 2_047, 2_048, 2_049, 4_096];
+    for words in LENGTHS {
+        let memory = any_words(rng, words);
+        let bytes =
+            image::to_bytes(&any_program(rng).start, &memory).expect("some words make an image");
+        for lent in [words, words + 1, words - 1] {
+            check_read(rng, &bytes, lent)?;
+        }
+        check_written(rng, &bytes)?;
+    }
+    Ok(LENGTHS.len())
+}
+
+fn any_words(rng: &mut Rng, count: usize) -> Vec<u32> {
+    (0..count).map(|_| rng.word()).collect()
+}
+
+/// Into a memory of so many words. Whether the image is accepted.
+fn check_read(rng: &mut Rng, bytes: &[u8], lent: usize) -> Result<bool, String> {
+    let memory = any_words(rng, lent);
+    let proved = proved::image_read(bytes, &memory);
+    let expected = expected::image_read(bytes, &memory);
+    same("image read", &proved, &expected, || {
+        let image = hex_bytes(bytes);
+        format!("image {image}\nlent{}\n", hex_words(&memory))
+    })?;
+    Ok(expected.carried_out())
 }
 
 /// What the reader accepts is just what the writer makes of it, also into a

@@ -1,5 +1,6 @@
-//! The proved calls against the reference emulator on generated cases.
+//! The proved calls against the reference emulator on generated and directed cases.
 
+pub mod directed;
 mod expected;
 pub mod gates;
 pub mod images;

@@ -16,9 +16,13 @@ pub struct Tally {
 
 pub fn check(rng: &mut Rng, tally: &mut Tally) -> Check {
     let program = any_program(rng);
-    let total = check_run(&program, tally)?;
-    check_file_run(rng, &program, tally)?;
-    gates::check_around(rng, &program, total)
+    check_program(rng, &program, tally)
+}
+
+pub fn check_program(rng: &mut Rng, program: &Program, tally: &mut Tally) -> Check {
+    let total = check_run(program, tally)?;
+    check_file_run(rng, program, tally)?;
+    gates::check_around(rng, program, total)
 }
 
 /// Returns the clock total.

@@ -1,7 +1,7 @@
 use mathlib.Core.Bool.{xor}
 use native.Mathlib.Omega.{arith}
 use borrow.Author.Needs.{needs}
-use Rattle.gates.proofs.Network.{gate-by}
+use Rattle.gate_network.proofs.Network.{gate-by}
 use Rattle.gates.proofs.gate_unit.Statement.{statement}
 use Rattle.gates.proofs.gate_unit.Tie as tie
 

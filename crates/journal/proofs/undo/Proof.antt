@@ -2,7 +2,6 @@ use Prim.Native.Nat.{_≤_}
 use mathlib.Core.Path.{_≡_, refl, _∙_}
 use native.Mathlib.Omega.{arith}
 use lib.ListN.{length}
-use borrow.Author.Needs.{needs}
 use Rattle.journal.specs.Undo.{undone}
 use Rattle.journal.proofs.Journals.{undone-none, undone-more}
 use Rattle.journal.proofs.undo.Statement.{statement}
@@ -21,14 +20,14 @@ loop-holds c = (omega arith, refl, refl)
 sub-k : tie.Need-sub-k Inv-loop μ-loop
 sub-k c = omega arith
 
-wide-requires : tie.Need-wide-requires Inv-loop μ-loop
-wide-requires c κs = search needs
+cast-put-back : tie.Need-cast-put-back Inv-loop μ-loop
+cast-put-back c = omega (arith, c .before .before .before .before .before .fits .pairs)
 
 mul-put-back : tie.Need-mul-put-back Inv-loop μ-loop
-mul-put-back c = omega (arith, c .wide .ensures, c .before .before .before .before .before .before .fits .pairs)
+mul-put-back c = omega (arith, c .before .before .before .before .before .fits .pairs)
 
 put-back-requires : tie.Need-put-back-requires Inv-loop μ-loop
-put-back-requires c κs = omega (arith, c .wide .ensures, c .before .before .before .before .before .before .fits .pairs)
+put-back-requires c κs = omega (arith, c .before .before .before .before .before .fits .pairs)
 
 loop-less : tie.Need-loop-less Inv-loop μ-loop
 loop-less c = omega arith
@@ -36,9 +35,9 @@ loop-less c = omega arith
 loop-again : tie.Need-loop-again Inv-loop μ-loop
 loop-again c =
     let put = c .before .before .put-back in
-    let l = c .before .before .before .before .before .before in
+    let l = c .before .before .before .before .before in
     let more = undone-more (l .loop .k) (l .before .before .before .args .journal .now) (l .loop .memory) (omega arith) in
-    (omega arith, put .kept .0 ∙ l .loop .inv .1, rw (put .ensures, c .before .before .before .wide .ensures) more ∙ l .loop .inv .2)
+    (omega arith, put .kept .0 ∙ l .loop .inv .1, rw (put .ensures) more ∙ l .loop .inv .2)
 
 same-length : tie.Need-same-length Inv-loop μ-loop
 same-length c = c .before .loop .inv .1
@@ -56,7 +55,7 @@ undo-spec =
     μ-loop
     loop-holds
     sub-k
-    wide-requires
+    cast-put-back
     mul-put-back
     put-back-requires
     loop-less

@@ -31,15 +31,15 @@ use Rattle.model.proofs.GateState as S
 use Rattle.model.proofs.GateState.Laws as S′
 use Rattle.gate_machine.specs.declared.GateOutcome.{GateOutcome}
 use Rattle.gate_machine.specs.declared.GateResult.{GateResult}
-use Rattle.gate_machine.specs.Calls.{LentClock}
 use Rattle.gate_machine.proofs.GateOutcome as K
 use Rattle.gate_machine.proofs.GateOutcome.Laws as K′
 use Rattle.gate_machine.proofs.GateResult as T
 use Rattle.gate_machine.proofs.GateResult.Laws as T′
-use Rattle.gate_machine.proofs.clock_lent as clock-lent
-use Rattle.gate_machine.proofs.clock_lent.Symbol as clock-lent-def
-use Rattle.gate_machine.proofs.clock_lent.Symbol.{name as #gate-machine·clock-lent}
-use Rattle.gate_machine.proofs.clock_lent.Met as clock-lent-thm
+use Rattle.lent_clock.specs.Calls.{LentClock}
+use Rattle.lent_clock.proofs.clock_lent as clock-lent
+use Rattle.lent_clock.proofs.clock_lent.Symbol as clock-lent-def
+use Rattle.lent_clock.proofs.clock_lent.Symbol.{name as #lent-clock·clock-lent}
+use Rattle.lent_clock.proofs.clock_lent.Met as clock-lent-thm
 use Rattle.crosscheck.proofs.lending.clock_once.Key.{name as #crosscheck·clock-once}
 use Rattle.crosscheck.proofs.lending.clock_once as clock-once
 use Rattle.crosscheck.proofs.lending.clock_once.Code as code
@@ -189,7 +189,7 @@ module _ {M : Type 1} (𝓤 : URA M) (H : Heap 𝓤) (A : Atoms 𝓤) (W : Given
       frame ! $ owned ! T.the-row (Is T.the-row) (LL.makes T.the-type T′.the-plain 𝓤 H A) (clocked t x) _ (is-clocked t v x k s) $ done !
 
   module _ (C : Calls 𝓤 H) (Λ : Loops 𝓤 H) (fm : FmC 𝓤 H (W .laws) C)
-      (known : Triple 𝓤 (C #gate-machine·clock-lent) (Lent 𝓤 H A at-mem run)) where
+      (known : Triple 𝓤 (C #lent-clock·clock-lent) (Lent 𝓤 H A at-mem run)) where
     walk : Room u32 (length (m .now)) → Room u16 (length (w .now))
         → ent 𝓤 (onEntry 𝓤 H A clock-once.signature κs qs a vals) (WpFn 𝓤 H C Λ code.function (m-val ∷ w-val ∷ state-val h ∷ []) Post)
     walk m-room w-room =
@@ -268,7 +268,7 @@ module _ {M : Type 1} (𝓤 : URA M) (H : Heap 𝓤) (A : Atoms 𝓤) (W : Given
         keep ! (0 ∷ 1 ∷ 2 ∷ []) $ by ! (exits t v (zs .1 .1 .0) k s (zs .0) e l))))))))))))))))))))
 
 module _ {M : Type 1} (𝓤 : URA M) (H : Heap 𝓤) (A : Atoms 𝓤) (W : Given 𝓤 H A) (at-mem : Memory → SProp 𝓤) (run : Routine → Fun 𝓤) where
-  clock-once-walks : (C : Calls 𝓤 H) (Λ : Loops 𝓤 H) → FmC 𝓤 H (W .laws) C → Triple 𝓤 (C #gate-machine·clock-lent) (Lent 𝓤 H A at-mem run)
+  clock-once-walks : (C : Calls 𝓤 H) (Λ : Loops 𝓤 H) → FmC 𝓤 H (W .laws) C → Triple 𝓤 (C #lent-clock·clock-lent) (Lent 𝓤 H A at-mem run)
       → Walks 𝓤 H A clock-once.ended stayed (WpFn 𝓤 H C Λ code.function) (clock-once.clauses 𝓤 H A at-mem run)
   clock-once-walks C Λ fm known =
       walked 𝓤 H A clock-once.ended stayed (clock-once.clauses 𝓤 H A at-mem run) (WpFn 𝓤 H C Λ code.function)
@@ -280,7 +280,7 @@ module _ {M : Type 1} (𝓤 : URA M) (H : Heap 𝓤) (A : Atoms 𝓤) (W : Given
 
 clock-once-meets : {M : Type 1} (𝓤 : URA M) (H : Heap 𝓤) (A : Atoms 𝓤) → Given 𝓤 H A
     → (at-mem : Memory → SProp 𝓤) (run : Routine → Fun 𝓤) (𝓣 : Tables 𝓤 H)
-    → Triple 𝓤 (𝓣 .C #gate-machine·clock-lent) (Lent 𝓤 H A at-mem run)
+    → Triple 𝓤 (𝓣 .C #lent-clock·clock-lent) (Lent 𝓤 H A at-mem run)
     → Meets 𝓤 H A clock-once.signature (WpFn 𝓤 H (𝓣 .C) (𝓣 .Λ) code.function) (clock-once.spec 𝓤 H A at-mem run)
 clock-once-meets 𝓤 H A W at-mem run 𝓣 known =
     walk-meets 𝓤 H A clock-once.ended stayed W (
@@ -299,5 +299,5 @@ clock-once-spec 𝓤 H 𝓜 𝓖 𝓡 =
     entered 𝓤 H (tripleOf 𝓤 H (𝓖 .A) clock-once.signature (clock-once.spec 𝓤 H (𝓖 .A) (𝓜 .mem) (𝓡 .run)))
     (tables 𝓤 H 𝓜 𝓡 code.env .C) (tables 𝓤 H 𝓜 𝓡 code.env .Λ) #crosscheck·clock-once code.function (code.unfolded 𝓤 H 𝓜 𝓡)
     (clock-once-meets 𝓤 H (𝓖 .A) (givenOf 𝓤 H 𝓜 𝓖) (𝓜 .mem) (𝓡 .run) (tablesOf 𝓤 H 𝓜 (tables 𝓤 H 𝓜 𝓡 code.env))
-    (cited 𝓤 H (Lent 𝓤 H (𝓖 .A) (𝓜 .mem) (𝓡 .run)) 𝓜 𝓡 code.env #gate-machine·clock-lent clock-lent-def.routine
-    code.calls-gate-machine·clock-lent (clock-lent-thm.met 𝓤 H 𝓜 𝓖 𝓡)))
+    (cited 𝓤 H (Lent 𝓤 H (𝓖 .A) (𝓜 .mem) (𝓡 .run)) 𝓜 𝓡 code.env #lent-clock·clock-lent clock-lent-def.routine
+    code.calls-lent-clock·clock-lent (clock-lent-thm.met 𝓤 H 𝓜 𝓖 𝓡)))

@@ -12,8 +12,8 @@ returns : tie.Need-returns
 unfolding grantOf
 returns c = rw (not-true (c .before .before .before .args .access) (c .before .if1 .taken)) (c .untouched .ensures)
 
-wide-requires : tie.Need-wide-requires
-wide-requires c κs = search needs
+cast-if2 : tie.Need-cast-if2
+cast-if2 c = search needs
 
 untouched-requires-2 : tie.Need-untouched-requires-2
 untouched-requires-2 c κs = search needs
@@ -21,9 +21,9 @@ untouched-requires-2 c κs = search needs
 returns-2 : tie.Need-returns-2
 unfolding grantOf
 returns-2 c =
-    let wide = c .before .before in
-    let access = not-false (wide .before .before .before .args .access) (wide .before .if1 .left) in
-    let absent = le-ltb _ _ (rw (wide .wide .ensures) at (c .before .if2 .taken)) in
+    let tested = c .before in
+    let access = not-false (tested .before .before .before .before .args .access) (tested .before .before .if1 .left) in
+    let absent = le-ltb _ _ (tested .if2 .taken) in
     rw (access, absent) (c .untouched2 .ensures)
 
 one-less-requires : tie.Need-one-less-requires
@@ -35,9 +35,9 @@ acknowledged-requires c κs = search needs
 returns-3 : tie.Need-returns-3
 unfolding grantOf remaining positionNow
 returns-3 c =
-    let wide = c .before .before .before .before in
-    let access = not-false (wide .before .before .before .args .access) (wide .before .if1 .left) in
-    let there = lt-ltb _ _ (rw (wide .wide .ensures) at (c .before .before .before .if2 .left)) in
+    let tested = c .before .before .before in
+    let access = not-false (tested .before .before .before .before .args .access) (tested .before .before .if1 .left) in
+    let there = lt-ltb _ _ (tested .if2 .left) in
     rw (access, there, c .before .before .if3 .taken, ← (c .before .one-less .ensures)) (c .acknowledged .ensures)
 
 wait-at-requires : tie.Need-wait-at-requires
@@ -52,9 +52,9 @@ acknowledged-requires-2 c κs = search needs
 returns-4 : tie.Need-returns-4
 unfolding grantOf remaining positionNow
 returns-4 c =
-    let wide = c .before .before .before .before .before in
-    let access = not-false (wide .before .before .before .args .access) (wide .before .if1 .left) in
-    let there = lt-ltb _ _ (rw (wide .wide .ensures) at (c .before .before .before .before .if2 .left)) in
+    let tested = c .before .before .before .before in
+    let access = not-false (tested .before .before .before .before .args .access) (tested .before .before .if1 .left) in
+    let there = lt-ltb _ _ (tested .if2 .left) in
     rw (access, there, c .before .before .before .if3 .left, ← (c .before .next-position .ensures), ← (c .before .before .wait-at .ensures))
     (c .acknowledged2 .ensures)
 
@@ -64,7 +64,7 @@ granted-spec =
     (tie.spec
     untouched-requires
     returns
-    wide-requires
+    cast-if2
     untouched-requires-2
     returns-2
     one-less-requires

@@ -6,20 +6,17 @@ use Rattle.model.proofs.Waits.{next-stays}
 use Rattle.gate_machine.proofs.access.next_position.Statement.{statement}
 use Rattle.gate_machine.proofs.access.next_position.Tie as tie
 
-wide-requires : tie.Need-wide-requires
-wide-requires c κs = search needs
-
 add-result : tie.Need-add-result
 add-result c = search needs
 
 returns : tie.Need-returns
 unfolding nextPosition
-returns c = rw (lt-ltb _ _ (rw (c .before .wide .ensures) at (c .if1 .taken)))
+returns c = rw (lt-ltb _ _ (c .if1 .taken))
 
 returns-2 : tie.Need-returns-2
 returns-2 c =
-    let args = c .before .before .before .args in
-    sym (next-stays (args .waits .now) (args .position) (rw (c .before .wide .ensures) at (c .if1 .left)))
+    let args = c .before .args in
+    sym (next-stays (args .waits .now) (args .position) (c .if1 .left))
 
 pub next-position-spec : {M : Type 1} → statement M
-next-position-spec = tie.close (tie.spec wide-requires add-result returns returns-2)
+next-position-spec = tie.close (tie.spec add-result returns returns-2)

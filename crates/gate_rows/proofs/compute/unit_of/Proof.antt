@@ -14,17 +14,17 @@ returns : tie.Need-returns
 unfolding alu aluOf aluAt answers
 returns c = rw (← (c .before .before .is-move .ensures), c .before .if1 .taken) (c .answer .ensures)
 
-operation-of-requires : tie.Need-operation-of-requires
-operation-of-requires c κs = search needs
+unit-operation-requires : tie.Need-unit-operation-requires
+unit-operation-requires c κs = search needs
 
 gate-unit-requires : tie.Need-gate-unit-requires
 gate-unit-requires c κs = search needs
 
 returns-2 : tie.Need-returns-2
 unfolding alu
-returns-2 c = rw (← (c .before .before .before .is-move .ensures), c .before .before .if1 .left, ← (c .before .operation-of .ensures)) (c .gate-unit .ensures)
+returns-2 c = rw (← (c .before .unit-operation .ensures)) (c .gate-unit .ensures)
 
 pub unit-of-spec : {M : Type 1} → statement M
 unit-of-spec =
     tie.close
-    (tie.spec is-move-requires answer-requires returns operation-of-requires gate-unit-requires returns-2)
+    (tie.spec is-move-requires answer-requires returns unit-operation-requires gate-unit-requires returns-2)

@@ -10,8 +10,8 @@ element-copy-out-latch-address c = search needs
 latch-address-requires : tie.Need-latch-address-requires
 latch-address-requires c κs = search needs
 
-wide-requires : tie.Need-wide-requires
-wide-requires c κs = search needs
+cast-load : tie.Need-cast-load
+cast-load c = search needs
 
 load-requires : tie.Need-load-requires
 load-requires c κs = search needs
@@ -31,8 +31,8 @@ operand-a-requires c κs = search needs
 prepare-requires : tie.Need-prepare-requires
 prepare-requires c κs = search needs
 
-wide-requires-2 : tie.Need-wide-requires-2
-wide-requires-2 c κs = search needs
+cast-load-2 : tie.Need-cast-load-2
+cast-load-2 c = search needs
 
 load-requires-2 : tie.Need-load-requires-2
 load-requires-2 c κs = search needs
@@ -46,8 +46,8 @@ operand-b-requires c κs = search needs
 prepare-requires-2 : tie.Need-prepare-requires-2
 prepare-requires-2 c κs = search needs
 
-wide-requires-3 : tie.Need-wide-requires-3
-wide-requires-3 c κs = search needs
+cast-load-3 : tie.Need-cast-load-3
+cast-load-3 c = search needs
 
 load-requires-3 : tie.Need-load-requires-3
 load-requires-3 c κs = search needs
@@ -67,8 +67,8 @@ set-register-requires c κs = search needs
 moved-requires-2 : tie.Need-moved-requires-2
 moved-requires-2 c κs = search needs
 
-wide-requires-4 : tie.Need-wide-requires-4
-wide-requires-4 c κs = search needs
+cast-store : tie.Need-cast-store
+cast-store c = search needs
 
 store-requires : tie.Need-store-requires
 store-requires c κs = search needs
@@ -103,7 +103,7 @@ same-length c = search needs
 returns-2 : tie.Need-returns-2
 returns-2 c =
     by 1 (c .before .before .before .before .match .keys2)
-    (c .latch-instruction .ensures _ ∙ rw (c .before .load .ensures, c .before .before .wide .ensures)) refl
+    (c .latch-instruction .ensures _ ∙ rw (c .before .load .ensures)) refl
 
 returns-3 : tie.Need-returns-3
 returns-3 c = by 2 (c .before .before .before .match .keys3) (c .moved .ensures _ ∙ rw (c .before .step-pc .ensures)) refl
@@ -117,7 +117,7 @@ same-length-2 c = search needs
 returns-5 : tie.Need-returns-5
 returns-5 c =
     by 4 (c .before .before .before .before .match .keys5)
-    (c .latch-a .ensures _ ∙ rw (c .before .load2 .ensures, c .before .before .wide2 .ensures)) refl
+    (c .latch-a .ensures _ ∙ rw (c .before .load2 .ensures)) refl
 
 returns-6 : tie.Need-returns-6
 returns-6 c = by-5 (c .before .before .before .match .keys6) (c .before .before .operand-b .ensures) (c .prepare2 .ensures)
@@ -128,7 +128,7 @@ same-length-3 c = search needs
 returns-7 : tie.Need-returns-7
 returns-7 c =
     by 6 (c .before .before .before .before .match .keys7)
-    (c .latch-b .ensures _ ∙ rw (c .before .load3 .ensures, c .before .before .wide3 .ensures)) refl
+    (c .latch-b .ensures _ ∙ rw (c .before .load3 .ensures)) refl
 
 returns-8 : tie.Need-returns-8
 returns-8 c = by 7 (c .before .match .keys8) (c .compute .ensures _) refl
@@ -144,7 +144,7 @@ same-length-4 c = search needs
 returns-10 : tie.Need-returns-10
 returns-10 c =
     by 9 (c .before .before .before .before .before .before .match .keys10) (c .moved3 .ensures _)
-    (rw (c .before .before .before .before .wide4 .ensures) at (c .before .before .before .store .ensures))
+    (c .before .before .before .store .ensures)
 
 returns-11 : tie.Need-returns-11
 returns-11 c =
@@ -165,26 +165,26 @@ work-spec =
     (tie.spec
     element-copy-out-latch-address
     latch-address-requires
-    wide-requires
+    cast-load
     load-requires
     latch-instruction-requires
     step-pc-requires
     moved-requires
     operand-a-requires
     prepare-requires
-    wide-requires-2
+    cast-load-2
     load-requires-2
     latch-a-requires
     operand-b-requires
     prepare-requires-2
-    wide-requires-3
+    cast-load-3
     load-requires-3
     latch-b-requires
     compute-requires
     operand-b-requires-2
     set-register-requires
     moved-requires-2
-    wide-requires-4
+    cast-store
     store-requires
     moved-requires-3
     operand-a-requires-2

@@ -4,7 +4,7 @@ use mathlib.Core.Bool.{Bool, xor}
 use mathlib.Core.List.{List, _++_}
 use native.Mathlib.Omega.{arith}
 use lib.ListN.{length, take, drop, length-set}
-use Rattle.gates.specs.Gates.{rippleSum, rippleCarry}
+use Rattle.gate_network.specs.Gates.{rippleSum, rippleCarry}
 use Rattle.gates.proofs.Turns.{turn, all-stored, ripple-sum-step, ripple-carry-step, ripple-sum-end, ripple-carry-end}
 use Rattle.gates.proofs.adder.ripple.Statement.{statement}
 use Rattle.gates.proofs.adder.ripple.Tie as tie

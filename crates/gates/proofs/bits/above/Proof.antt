@@ -4,8 +4,8 @@ use mathlib.Core.Bool.{false}
 use native.Mathlib.Omega.{arith}
 use lib.ListN.{List·getD-eq-default}
 use borrow.Author.Needs.{needs}
-use Rattle.gates.specs.Gates.{bitsOf}
-use Rattle.gates.proofs.Turns.{bit-at, length-bits}
+use Rattle.gate_network.specs.Gates.{bitsOf}
+use Rattle.gate_network.proofs.Worth.{length-bits, bit-at}
 use Rattle.gates.proofs.bits.above.Statement.{statement}
 use Rattle.gates.proofs.bits.above.Tie as tie
 

@@ -4,8 +4,8 @@ use mathlib.Core.Bool.{Bool, false, _||_}
 use native.Mathlib.Omega.{arith}
 use lib.ListN.{length, drop, getD}
 use lib.Seq.{drop-length}
-use Rattle.gates.specs.Gates.{anyOf}
-use Rattle.gates.proofs.Worth.{row-drop}
+use Rattle.gate_network.specs.Gates.{anyOf}
+use Rattle.gate_network.proofs.Worth.{row-drop}
 use Rattle.gates.proofs.bits.any.Statement.{statement}
 use Rattle.gates.proofs.bits.any.Tie as tie
 

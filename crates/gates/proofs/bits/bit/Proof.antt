@@ -1,7 +1,7 @@
 use mathlib.Core.Path.{sym}
 use mathlib.Core.Bool.{false}
 use borrow.Author.Needs.{needs}
-use Rattle.gates.proofs.Turns.{bit-at}
+use Rattle.gate_network.proofs.Worth.{bit-at}
 use Rattle.gates.proofs.bits.bit.Statement.{statement}
 use Rattle.gates.proofs.bits.bit.Tie as tie
 

@@ -4,8 +4,8 @@ use native.Mathlib.Omega.{arith}
 use lib.ListN.{length, drop}
 use lib.Seq.{drop-length}
 use borrow.Author.Needs.{needs}
-use Rattle.gates.specs.Gates.{value}
-use Rattle.gates.proofs.Worth.{value-drop}
+use Rattle.gate_network.specs.Gates.{value}
+use Rattle.gate_network.proofs.Worth.{value-drop}
 use Rattle.gates.proofs.bits.from_bits.Statement.{statement}
 use Rattle.gates.proofs.bits.from_bits.Tie as tie
 

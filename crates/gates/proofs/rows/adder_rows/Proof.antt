@@ -5,8 +5,9 @@ use mathlib.Core.List.{List, _++_}
 use native.Mathlib.Omega.{arith}
 use lib.ListN.{length, take, drop, length-set}
 use borrow.Author.Needs.{needs}
-use Rattle.gates.specs.Gates.{bitsOf, firstBit, secondBit, firstRow, secondRow}
-use Rattle.gates.proofs.Turns.{turn, all-stored, first-step, second-step, first-end, second-end, length-bits}
+use Rattle.gate_network.specs.Gates.{bitsOf, firstBit, secondBit, firstRow, secondRow}
+use Rattle.gate_network.proofs.Worth.{length-bits}
+use Rattle.gates.proofs.Turns.{turn, all-stored, first-step, second-step, first-end, second-end}
 use Rattle.gates.proofs.rows.adder_rows.Statement.{statement}
 use Rattle.gates.proofs.rows.adder_rows.Tie as tie
 

@@ -20,9 +20,9 @@ small-at l = omega (arith, at-small (l .loop .inv), l .before .before .before .p
 
 -- and so are the clocks
 fit-at : (t : tie.After-run-one Inv-loop μ-loop)
-    → t .before .before .before .before .before .before .before .loop .clocks + t .run-one .result .clocks ≤ 200
+    → t .before .before .before .before .before .before .loop .clocks + t .run-one .result .clocks ≤ 200
 fit-at t =
-    let l = t .before .before .before .before .before .before .before in
+    let l = t .before .before .before .before .before .before in
     total-fits (l .loop .inv) (t .run-one .ensures) (l .before .before .before .before .before .before .before .pre)
 
 put-heading-requires : tie.Need-put-heading-requires Inv-loop μ-loop
@@ -34,32 +34,29 @@ loop-holds c = begins
 element-copy-out-address : tie.Need-element-copy-out-address Inv-loop μ-loop
 element-copy-out-address c = search needs
 
-wide-requires : tie.Need-wide-requires Inv-loop μ-loop
-wide-requires c κs = search needs
-
-load-requires : tie.Need-load-requires Inv-loop μ-loop
-load-requires c κs = search needs
+word-under-requires : tie.Need-word-under-requires Inv-loop μ-loop
+word-under-requires c κs = search needs
 
 run-one-requires : tie.Need-run-one-requires Inv-loop μ-loop
 run-one-requires c κs = search needs
 
 put-ending-requires : tie.Need-put-ending-requires Inv-loop μ-loop
-put-ending-requires c κs = small-at (c .before .before .before .before .before .before .before .before .before .before .before .before)
+put-ending-requires c κs = small-at (c .before .before .before .before .before .before .before .before .before .before .before)
 
 same-length : tie.Need-same-length Inv-loop μ-loop
 same-length c =
     let ran = c .before .before .before .before .before .before .before .before in
-    ran .run-one .kept .0 ∙ ran .before .before .before .before .before .before .before .loop .inv .words
+    ran .run-one .kept .0 ∙ ran .before .before .before .before .before .before .loop .inv .words
 
 same-length-2 : tie.Need-same-length-2 Inv-loop μ-loop
 same-length-2 c =
-    let l = c .before .before .before .before .before .before .before .before .before .before .before .before .before .before .before in
+    let l = c .before .before .before .before .before .before .before .before .before .before .before .before .before .before in
     c .before .before .put-ending .kept .0 ∙ l .loop .inv .room ∙ l .before .before .before .put-heading .kept .0
 
 returns : tie.Need-returns Inv-loop μ-loop
 returns c =
     let ran = c .before .before .before .before .before .before .before .before in
-    let entered = ran .before .before .before .before .before .before in
+    let entered = ran .before .before .before .before .before in
     let l = entered .before in
     let top = l .before .before .before in
     outside (l .loop .inv) (ran .run-one .ensures) (top .before .before .before .before .pre) (c .before .before .before .before .if1 .taken)
@@ -72,7 +69,7 @@ add-clocks : tie.Need-add-clocks Inv-loop μ-loop
 add-clocks c = omega (arith, fit-at (c .before .before .before .before .before .before .before))
 
 put-line-requires : tie.Need-put-line-requires Inv-loop μ-loop
-put-line-requires c κs = small-at (c .before .before .before .before .before .before .before .before .before .before .before .before .before .before .before)
+put-line-requires c κs = small-at (c .before .before .before .before .before .before .before .before .before .before .before .before .before .before)
 
 loop-less : tie.Need-loop-less Inv-loop μ-loop
 loop-less c = omega arith
@@ -81,11 +78,11 @@ loop-again : tie.Need-loop-again Inv-loop μ-loop
 loop-again c =
     let put = c .before .before .put-line in
     let ran = c .before .before .before .before .before .before .before .before .before .before .before in
-    let entered = ran .before .before .before .before .before .before in
+    let entered = ran .before .before .before .before .before in
     let l = entered .before in
     turn (l .loop .inv) (ran .run-one .ensures) (l .before .before .before .before .before .before .before .pre)
     (c .before .before .before .before .before .before .before .if1 .left) (entered .loop-test .taken) (ran .run-one .kept .0) (put .kept .0)
-    (rw (ran .before .before .before .wide .ensures) at (ran .before .before .load .ensures)) (put .ensures)
+    (ran .before .before .word-under .ensures) (put .ensures)
 
 put-ending-requires-2 : tie.Need-put-ending-requires-2 Inv-loop μ-loop
 put-ending-requires-2 c κs = small-at (c .before .before)
@@ -113,8 +110,7 @@ put-run-spec =
     put-heading-requires
     loop-holds
     element-copy-out-address
-    wide-requires
-    load-requires
+    word-under-requires
     run-one-requires
     put-ending-requires
     same-length

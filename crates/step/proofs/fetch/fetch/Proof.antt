@@ -7,14 +7,14 @@ use Rattle.step.proofs.fetch.fetch.Tie as tie
 element-copy-out-pc : tie.Need-element-copy-out-pc
 element-copy-out-pc c = search needs
 
-wide-requires : tie.Need-wide-requires
-wide-requires c κs = search needs
+index-requires : tie.Need-index-requires
+index-requires c κs = search needs
 
 absent-requires : tie.Need-absent-requires
 absent-requires c κs = search needs
 
 returns : tie.Need-returns
-returns c = pc-gone _ _ (c .before .before .wide .ensures) (c .before .if1 .taken) (c .absent .ensures)
+returns c = pc-gone _ _ (c .before .before .index .ensures) (c .before .if1 .taken) (c .absent .ensures)
 
 mul-word : tie.Need-mul-word
 mul-word c = search needs
@@ -45,7 +45,7 @@ returns-2 c =
     let t = c .before .before .before in
     let pc = t .before .before .before .before .before in
     let here = pc .before .before .before in
-    a-gone _ _ (here .before .wide .ensures) (here .if1 .left) (t .before .before .before .before .operand-a .ensures) (pc .step-pc .ensures)
+    a-gone _ _ (here .before .index .ensures) (here .if1 .left) (t .before .before .before .before .operand-a .ensures) (pc .step-pc .ensures)
     (t .take .ensures) (not-true _ (c .before .if2 .taken)) (c .absent2 .ensures)
 
 operand-b-requires : tie.Need-operand-b-requires
@@ -69,7 +69,7 @@ returns-3 c =
     let t = u .before .before .before .before .before in
     let pc = t .before .before .before .before .before in
     let here = pc .before .before .before in
-    b-gone _ _ (here .before .wide .ensures) (here .if1 .left) (t .before .before .before .before .operand-a .ensures) (pc .step-pc .ensures)
+    b-gone _ _ (here .before .index .ensures) (here .if1 .left) (t .before .before .before .before .operand-a .ensures) (pc .step-pc .ensures)
     (t .take .ensures) (not-false _ (u .before .before .before .if2 .left)) (u .before .before .operand-b .ensures)
     (u .take2 .ensures) (not-true _ (c .before .before .before .if3 .taken)) (t .before .before .register-word .ensures)
     (c .before .set-register .ensures) (c .absent3 .ensures)
@@ -80,7 +80,7 @@ returns-4 c =
     let t = u .before .before .before .before .before in
     let pc = t .before .before .before .before .before in
     let here = pc .before .before .before in
-    b-there _ _ (here .before .wide .ensures) (here .if1 .left) (t .before .before .before .before .operand-a .ensures) (pc .step-pc .ensures)
+    b-there _ _ (here .before .index .ensures) (here .if1 .left) (t .before .before .before .before .operand-a .ensures) (pc .step-pc .ensures)
     (t .take .ensures) (not-false _ (u .before .before .before .if2 .left)) (u .before .before .operand-b .ensures)
     (u .take2 .ensures) (not-false _ (c .if3 .left))
 
@@ -89,7 +89,7 @@ fetch-spec =
     tie.close
     (tie.spec
     element-copy-out-pc
-    wide-requires
+    index-requires
     absent-requires
     returns
     mul-word

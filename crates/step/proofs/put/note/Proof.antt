@@ -2,9 +2,6 @@ use borrow.Author.Needs.{needs}
 use Rattle.step.proofs.put.note.Statement.{statement}
 use Rattle.step.proofs.put.note.Tie as tie
 
-wide-requires : tie.Need-wide-requires
-wide-requires c κs = search needs
-
 mul-at : tie.Need-mul-at
 mul-at c = search needs
 
@@ -27,7 +24,7 @@ returns : tie.Need-returns
 returns c =
     let first = c .before .before .before .before .before .before .before in
     record {
-      places = rw (c .before .before .before .store2 .ensures, first .store .ensures, first .before .before .wide .ensures);
+      places = rw (c .before .before .before .store2 .ensures, first .store .ensures);
       count = c .wrapping-add-u32 .ensures;
     }
 
@@ -35,7 +32,6 @@ pub note-spec : {M : Type 1} → statement M
 note-spec =
     tie.close
     (tie.spec
-    wide-requires
     mul-at
     store-requires
     add-store

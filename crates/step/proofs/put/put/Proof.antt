@@ -11,8 +11,8 @@ returns c = puts-none (not-true _ (c .if1 .taken))
 in-memory-requires : tie.Need-in-memory-requires
 in-memory-requires c κs = search needs
 
-wide-requires : tie.Need-wide-requires
-wide-requires c κs = search needs
+cast-store : tie.Need-cast-store
+cast-store c = search needs
 
 store-requires : tie.Need-store-requires
 store-requires c κs = search needs
@@ -31,7 +31,7 @@ returns-2 c =
     let stored = c .before .before .before .before .before .before in
     let there = stored .before .before .before in
     puts-memory (not-false _ (there .before .before .if1 .left)) (sym (there .before .in-memory .ensures) ∙ there .if2 .taken)
-    (stored .before .wide .ensures) (stored .store .ensures) (c .before .before .note .ensures)
+    (stored .store .ensures) (c .before .before .note .ensures)
 
 set-register-requires : tie.Need-set-register-requires
 set-register-requires c κs = search needs
@@ -48,7 +48,7 @@ put-spec =
     (tie.spec
     returns
     in-memory-requires
-    wide-requires
+    cast-store
     store-requires
     note-requires
     same-length

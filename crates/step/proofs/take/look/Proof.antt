@@ -10,18 +10,18 @@ register-word-requires c κs = search needs
 in-memory-requires : tie.Need-in-memory-requires
 in-memory-requires c κs = search needs
 
-wide-requires : tie.Need-wide-requires
-wide-requires c κs = search needs
+cast-i : tie.Need-cast-i
+cast-i c = search needs
 
 load-requires : tie.Need-load-requires
 load-requires c κs = search needs
 
 returns : tie.Need-returns
 returns c =
-    let is = c .before .before .before in
+    let is = c .before .before in
     let args = is .before .before .before .args in
-    taken-memory (args .o) (args .regs .now) (args .memory .now) (sym (is .in-memory .ensures) ∙ c .before .before .if1 .taken)
-    (is .before .register-word .ensures) (c .before .wide .ensures) (c .load .ensures)
+    taken-memory (args .o) (args .regs .now) (args .memory .now) (sym (is .in-memory .ensures) ∙ c .before .if1 .taken)
+    (is .before .register-word .ensures) (c .load .ensures)
 
 returns-2 : tie.Need-returns-2
 returns-2 c =
@@ -35,7 +35,7 @@ look-spec =
     (tie.spec
     register-word-requires
     in-memory-requires
-    wide-requires
+    cast-i
     load-requires
     returns
     returns-2)

@@ -1,0 +1,16 @@
+use native.Mathlib.Omega.{arith}
+use borrow.Author.Needs.{needs}
+use Rattle.engine.proofs.clocks.more_if.Statement.{statement}
+use Rattle.engine.proofs.clocks.more_if.Tie as tie
+
+more-requires : tie.Need-more-requires
+more-requires c κs = search needs
+
+returns : tie.Need-returns
+returns c = (rw (c .before .if1 .taken) (c .more .ensures .0), c .more .ensures .1)
+
+returns-2 : tie.Need-returns-2
+returns-2 c = (rw (c .if1 .left), omega arith)
+
+pub more-if-spec : {M : Type 1} → statement M
+more-if-spec = tie.close (tie.spec more-requires returns returns-2)

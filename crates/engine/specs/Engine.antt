@@ -1,0 +1,24 @@
+-- What the loop that both runs share leaves: the state, the memory and the journal of `interpret`. Document 01, "Machine and instruction
+-- word", "Clocks" and "File run and journal".
+use Prim.Native.Nat.{ℕ}
+use mathlib.Core.Path.{_≡_}
+use mathlib.Core.List.{List}
+use lib.ListN.{length}
+use lib.Seq.{sets}
+use Rattle.model.specs.declared.Machine.{Machine}
+use Rattle.model.specs.declared.Ending.{Ending}
+use Rattle.model.specs.Interpreter.{Run, begin, interpret}
+use Rattle.model.specs.Journal.{journalPairs, journalWords}
+use Rattle.engine.specs.declared.Ended.{Ended}
+
+abbrev pub endedAt : Ending → Machine → (ran clocks pairs : ℕ) → Ended
+endedAt ending m ran clocks pairs =
+    record { ending = ending; machine = m; ran = ran; clocks = clocks; pairs = pairs }
+
+abbrev pub endedOf : Run → ℕ → Ended
+endedOf r pairs = endedAt (r .ending) (r .machine) (r .ran) (r .clocks) pairs
+
+pub record EngineEnds (memory waits journal : List ℕ) (start : Machine) (count : ℕ) (memory′ journal′ : List ℕ) (e : Ended) : Type 0 where
+  pub result : e ≡ endedOf (interpret waits count (begin start memory 0)) (length (journalPairs waits count (begin start memory 0)))
+  pub words : memory′ ≡ interpret waits count (begin start memory 0) .memory
+  pub places : journal′ ≡ sets journal 0 (journalWords (journalPairs waits count (begin start memory 0)))

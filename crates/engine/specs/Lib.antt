@@ -1,0 +1,2 @@
+pub mod Clocks
+pub mod Engine

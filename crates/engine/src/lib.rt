@@ -1,0 +1,71 @@
+// The loop that both kinds of run share. One loop with one call of the step, waits and journal in it: a second one would cost both their
+// speed.
+mod clocks;
+
+use clocks::Spent;
+use clocks::clocked;
+use model::Ending;
+use model::Machine;
+use packed_flags::packed;
+use packed_flags::unpacked;
+use step::step;
+ghost use mathlib.Core.Path.{_≡_};
+ghost use Rattle.model.specs.Packed.{packedMachine};
+ghost use Rattle.engine.specs.Engine.{endedAt, EngineEnds};
+
+// A run at its end, with the number of its journal pairs.
+pub struct Ended {
+    pub ending: Ending,
+    pub machine: Machine,
+    pub ran: u32,
+    pub clocks: u64,
+    pub pairs: u32,
+}
+
+// The loop's locals put together.
+fn run_end(ending: Ending, regs: [u32; 8], flags: u32, ran: u32, clocks: u64, pairs: u32) -> Ended
+    ensures { λ r. ⌜ r ≡ endedAt ending (packedMachine regs flags) ran clocks pairs ⌝ }
+{
+    let flags = unpacked(flags);
+    Ended {
+        ending,
+        machine: Machine { regs, flags },
+        ran,
+        clocks,
+        pairs,
+    }
+}
+
+// Up to `count` instructions. A journal of 2 * `count` places gets every pair; callers that want none lend an empty one.
+pub fn engine(
+    memory: &mut [u32],
+    waits: &[u16],
+    journal: &mut [u32],
+    start: Machine,
+    count: u32,
+) -> Ended
+    ensures { λ r. ⌜ EngineEnds (now (memory .entry)) (now (waits .entry)) (now (journal .entry)) start count (now (memory .exit)) (now (journal .exit)) r ⌝ }
+{
+    let mut regs = start.regs;
+    let first = start.flags;
+    let mut flags = packed(first);
+    let mut position: usize = 0;
+    let mut clocks: u64 = 0;
+    let mut pairs: u32 = 0;
+    let mut i: u32 = 0;
+    while i < count {
+        let s = step(&mut regs, memory, journal, pairs, flags);
+        if !s.inside {
+            return run_end(Ending::Outside, regs, flags, i, clocks, pairs);
+        }
+        let oa = s.oa;
+        let ob = s.ob;
+        let c = clocked(waits, Spent { clocks, position }, oa, ob, s.stored);
+        flags = s.flags;
+        clocks = c.clocks;
+        position = c.position;
+        pairs = s.pairs;
+        i += 1;
+    }
+    run_end(Ending::Finished, regs, flags, i, clocks, pairs)
+}

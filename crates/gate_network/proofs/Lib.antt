@@ -1,0 +1,4 @@
+pub mod Worth
+mod RowWorth
+mod Adders
+pub mod Network

@@ -1,0 +1,53 @@
+-- What holds of the adder and of the unit at every width. Document 01, "Clocks": "The arithmetic unit uses only one- and two-input
+-- gates on single bits, with a ripple adder shown right for all widths together."
+use Prim.Native.Nat.{ℕ, suc, _+_, _*_, _^_}
+use mathlib.Core.Path.{_≡_}
+use mathlib.Core.Bool.{Bool, false, not}
+use mathlib.Core.List.{List}
+use lib.ListN.{length, getD}
+use Rattle.arithmetic.specs.declared.AluOut.{AluOut}
+use Rattle.arithmetic.specs.Words.{asNumber, nibble, overflowOf}
+use Rattle.arithmetic.specs.Alu.{aluAt}
+use Rattle.gate_network.specs.declared.Lines.{Lines}
+use Rattle.gate_network.specs.Gates.{value, rippleSum, rippleCarry, firstRow, secondRow, linesOf, carryOut, anyOf}
+
+-- ---- the adder ("a ripple adder shown right for all widths together")
+
+-- s and d are a sum and a carry out of the rows p and q and the carry in f
+pub record Adds (p q : List Bool) (f : Bool) (s : List Bool) (d : Bool) : Type 0 where
+  pub long : length s ≡ length p
+  pub worth : value s + asNumber d * 2 ^ length p ≡ value p + value q + asNumber f
+
+-- the ripple adder adds rows of any one width
+abbrev pub RippleAdds : Type 0
+RippleAdds = (p q : List Bool) (f : Bool) → length q ≡ length p → Adds p q f (rippleSum p q f) (rippleCarry p q f)
+
+-- ---- the unit ("The arithmetic unit uses only one- and two-input gates on single bits")
+
+-- what the unit of k + 1 bits gives for a and b where s and d are its adder's sum and carry
+abbrev pub outOf : ℕ → Lines → (a b s : List Bool) → (d : Bool) → AluOut
+outOf k l a b s d =
+    record {
+      result = value s;
+      carry = carryOut l (getD a 0 false) d;
+      overflow = overflowOf (getD (firstRow l a b) k false) (getD (secondRow l a) k false) (getD s k false);
+      negative = getD s k false;
+      zero = not (anyOf s);
+    }
+
+-- for each operation, given by its four lines, it answers as the definition does, at every width of k + 1 bits and around any adder that
+-- adds
+abbrev pub UnitAtEveryWidth : Type 0
+UnitAtEveryWidth =
+    (k : ℕ) (a b s : List Bool) (d c : Bool) → length a ≡ suc k → length b ≡ suc k → (o0 o1 o2 o3 : Bool)
+    → let l = linesOf o0 o1 o2 o3 c (getD a k false) in
+    Adds (firstRow l a b) (secondRow l a) (l .carry) s d
+    → outOf k l a b s d ≡ aluAt k (nibble o3 o2 o1 o0) (value a) (value b) c
+
+-- so it does around the ripple adder
+abbrev pub RippleUnit : Type 0
+RippleUnit =
+    (k : ℕ) (a b : List Bool) (c : Bool) → length a ≡ suc k → length b ≡ suc k → (o0 o1 o2 o3 : Bool)
+    → let l = linesOf o0 o1 o2 o3 c (getD a k false) in
+    outOf k l a b (rippleSum (firstRow l a b) (secondRow l a) (l .carry)) (rippleCarry (firstRow l a b) (secondRow l a) (l .carry))
+    ≡ aluAt k (nibble o3 o2 o1 o0) (value a) (value b) c

@@ -1,0 +1,92 @@
+-- An example of each exported call, most with words of document 01, "Bench words". A type's first line has what is lent, its second what is
+-- left there, and the code. antt computes them.
+use Prim.Native.Nat.{ℕ}
+use mathlib.Core.Path.{refl}
+use mathlib.Core.List.{List, [], _∷_, _++_}
+use lib.ListN.{replicate}
+use Rattle.arithmetic.specs.Words.{signedOf, leaves}
+use Rattle.arithmetic.specs.Alu.{sumOf, answers, aluAt, aluOf}
+use Rattle.model.specs.Words.{field, bit}
+use Rattle.model.specs.Operands.{operandA, operandB}
+use Rattle.model.specs.Alu.{isMove, operation, alu, flagsAfter, stores}
+use Rattle.model.specs.Waits.{waitAt, nextPosition, waitSum, positionAfter}
+use Rattle.model.specs.Interpreter.{execute, stop, advance, interpret}
+use Rattle.model.specs.Journal.{storedBy, journalPairs, journalWords}
+use Rattle.model.specs.GateMachine.{work, isAccess, remaining, positionNow, workOrWait, clock, gateRun}
+use Rattle.model.specs.Packed.{latchWords}
+use Rattle.model.specs.Refusals.{runVerdict, fileVerdict, gateVerdict}
+use Rattle.interpreter.specs.Calls.{runReturned, runWords, fileReturned, fileWords, filePlaces}
+use Rattle.gate_machine.specs.Calls.{gateReturned, gateWords}
+use Rattle.image.specs.Bytes.{bytesOf, numberIn, wordBytes, wordsIn}
+use Rattle.image.specs.Format.{fieldsFor, fieldBytes, memoryFields, imageOf}
+use Rattle.image.specs.Reading.{headerVerdict, fieldVerdict, readField, readMemory, readOf}
+use Rattle.image.specs.Calls.{writeVerdict, writeReturned, writeBytes, readReturned, readWords}
+use Rattle.host_reading.specs.Layout.{machineIn, stateIn, lentFormed}
+use Rattle.host_words.specs.Words.{machineWords}
+use Rattle.host_calls.specs.Calls.{RunCall, FileCall, GateCall, ReadCall, WriteCall}
+
+-- a lent machine of r0, r1 and r2; the other registers and the flags are 0
+abbrev machine : (r0 r1 r2 : ℕ) → List ℕ
+machine r0 r1 r2 = r0 ∷ r1 ∷ r2 ∷ replicate 9 0
+
+-- so many lent places that held something before
+abbrev used : ℕ → List ℕ
+used n = replicate n 9
+
+-- two instructions: the first has two accesses, with waits of 2 and 3, and takes 15 clocks and not 10; the second takes 9
+run : RunCall (0x58 ∷ 0x2A ∷ 0 ∷ 0 ∷ []) (2 ∷ 3 ∷ []) (machine 0 0 0) 2 (used 2)
+    (0x58 ∷ 0x2A ∷ 0 ∷ 0 ∷ []) (machine 3 0 0x2A) (2 ∷ 24 ∷ []) 0
+unfolding field bit operandA operandB answers aluAt aluOf isMove operation alu flagsAfter stores waitAt nextPosition waitSum positionAfter execute advance interpret runVerdict runReturned runWords machineIn lentFormed machineWords
+run = record { returned = refl; words = refl; parts = refl; numbers = refl }
+
+-- refused for a memory of no words: what is lent stays, even flag words of 9, which stand for 1
+run-refused : RunCall [] [] (used 12) 1 (used 2)
+    [] (used 12) (used 2) 1
+unfolding runVerdict runReturned runWords machineIn lentFormed machineWords
+run-refused = record { returned = refl; words = refl; parts = refl; numbers = refl }
+
+-- no machine has 11 words
+run-misfit : RunCall (used 1) [] (used 11) 1 (used 2)
+    (used 1) (used 11) (used 2) 200
+unfolding lentFormed
+run-misfit = record { returned = refl; words = refl; parts = refl; numbers = refl }
+
+-- r2 is moved to word 0, over the move itself
+file-run : FileCall (0x122 ∷ []) (used 2) (machine 0 0 5) 1 (used 2)
+    (5 ∷ []) (0 ∷ 0x122 ∷ []) (machine 1 0 5) (1 ∷ 1 ∷ []) 0
+unfolding field bit operandA operandB answers aluAt aluOf isMove operation alu flagsAfter stores execute advance interpret storedBy journalPairs journalWords fileVerdict fileReturned fileWords filePlaces machineIn lentFormed machineWords
+file-run = record { returned = refl; words = refl; places = refl; parts = refl; numbers = refl }
+
+-- the same and one more, which is outside: memory and machine are put back, the journal has the store
+file-run-undone : FileCall (0x122 ∷ []) (used 4) (machine 0 0 5) 2 (used 2)
+    (0x122 ∷ []) (0 ∷ 0x122 ∷ 9 ∷ 9 ∷ []) (machine 0 0 5) (1 ∷ 1 ∷ []) 100
+unfolding field bit operandA operandB isMove stores execute stop advance interpret storedBy journalPairs journalWords fileVerdict fileReturned fileWords filePlaces machineIn lentFormed machineWords
+file-run-undone = record { returned = refl; words = refl; places = refl; parts = refl; numbers = refl }
+
+-- nine clocks finish one instruction: r1 is 0, CVNZ 1001, and the latches have its word and its operands
+gate-run : GateCall (0x0001_3C21 ∷ []) [] (0 ∷ 0xFFFF_FFFF ∷ replicate 19 0) 9 (used 1)
+    (0x0001_3C21 ∷ []) (1 ∷ replicate 7 0 ++ 1 ∷ 0 ∷ 0 ∷ 1 ∷ 0 ∷ 0x0001_3C21 ∷ 0 ∷ 0xFFFF_FFFF ∷ 0xFFFF_FFFF ∷ 0 ∷ 0 ∷ 0 ∷ 0 ∷ []) (1 ∷ []) 0
+unfolding signedOf leaves sumOf field bit operandA operandB answers aluAt aluOf isMove operation alu flagsAfter stores waitAt nextPosition work isAccess remaining positionNow workOrWait clock gateRun latchWords gateVerdict gateReturned gateWords machineIn stateIn lentFormed machineWords
+gate-run = record { returned = refl; words = refl; parts = refl; numbers = refl }
+
+-- ---- the image of one word
+
+abbrev image : List ℕ
+image =
+    1 ∷ 1 ∷ 0 ∷ 1  -- version
+    ∷ 2 ∷ 32 ∷ 0 ∷ replicate 32 0  -- registers
+    ++ 3 ∷ 4 ∷ 0 ∷ 0 ∷ 0 ∷ 0 ∷ 0  -- flags
+    ∷ 4 ∷ 4 ∷ 0 ∷ 1 ∷ 0 ∷ 0 ∷ 0  -- M
+    ∷ 5 ∷ 4 ∷ 0 ∷ 0x21 ∷ 0x3C ∷ 1 ∷ 0  -- the word
+    ∷ 0xFF ∷ 0 ∷ 0  -- end
+    ∷ []
+
+image-write : WriteCall (0x0001_3C21 ∷ []) (machine 0 0 0) (used 64) (used 1)
+    (image ++ 9 ∷ []) (63 ∷ []) 0
+unfolding bytesOf wordBytes fieldsFor fieldBytes memoryFields imageOf writeVerdict writeReturned writeBytes machineIn lentFormed
+image-write = record { returned = refl; bytes = refl; numbers = refl }
+
+image-read : ReadCall image (used 2) (used 12) (used 1)
+    (0x0001_3C21 ∷ 9 ∷ []) (machine 0 0 0) (1 ∷ []) 0
+unfolding numberIn wordsIn fieldsFor headerVerdict fieldVerdict readField readMemory readOf readReturned readWords lentFormed machineWords
+image-read = record { returned = refl; words = refl; parts = refl; numbers = refl }

@@ -1,0 +1,71 @@
+-- The code that each call returns, and what it leaves of what it was lent. Document 01, "Why a call is turned down", numbers the refusals.
+use Prim.Native.Nat.{ℕ}
+use mathlib.Core.Bool.{Bool, cond, _||_}
+use mathlib.Core.List.{List, [], _∷_}
+use lib.Dec.{eqb}
+use Rattle.model.specs.Refusals.{refusalNumber}
+use Rattle.interpreter.specs.declared.RunAnswer.{RunAnswer}
+use Rattle.interpreter.specs.declared.RunResult.{RunResult}
+use Rattle.interpreter.specs.declared.FileAnswer.{FileAnswer}
+use Rattle.interpreter.specs.declared.FileResult.{FileResult}
+use Rattle.gate_machine.specs.declared.GateResult.{GateResult}
+use Rattle.image.specs.declared.ReadResult.{ReadResult}
+use Rattle.image.specs.declared.WriteAnswer.{WriteAnswer}
+use Rattle.image.specs.Calls.{writeSize, readCount}
+
+-- ---- the codes: a refusal has document 01's number, 1 to 15; of a gate run, a read and a write the answer's number is the code
+
+-- carried out
+abbrev pub done : ℕ
+done = 0
+
+-- carried out and ended "outside" or "undone"
+abbrev pub stopped : ℕ
+stopped = 100
+
+-- what is lent has not the layout's lengths
+abbrev pub misfit : ℕ
+misfit = 200
+
+abbrev pub runCode : RunAnswer → ℕ
+runCode RunAnswer.Finished = done
+runCode RunAnswer.Outside = stopped
+runCode (RunAnswer.Refused why) = refusalNumber why
+
+abbrev pub fileCode : FileAnswer → ℕ
+fileCode FileAnswer.Finished = done
+fileCode FileAnswer.Undone = stopped
+fileCode (FileAnswer.Refused why) = refusalNumber why
+
+-- the code of a call that goes on only where what is lent has the layout's lengths
+abbrev pub codeIf : Bool → ℕ → ℕ
+codeIf fits code = cond fits code misfit
+
+abbrev pub carriedOut : (code : ℕ) → Bool
+carriedOut code = eqb code done || eqb code stopped
+
+-- a lent slice after the call: what a call that was carried out puts there, or as it was
+abbrev pub afterCall : (code : ℕ) → (put former : List ℕ) → List ℕ
+afterCall code put former = cond (carriedOut code) put former
+
+-- ---- the numbers for the result's places
+
+-- the instructions that ran, the clock total
+abbrev pub runCounts : RunResult → List ℕ
+runCounts r = r .ran ∷ r .clocks ∷ []
+
+-- the instructions that ran, the journal's pairs
+abbrev pub fileCounts : FileResult → List ℕ
+fileCounts r = r .ran ∷ r .pairs ∷ []
+
+-- the instructions finished
+abbrev pub gateCounts : GateResult → List ℕ
+gateCounts r = r .outcome .finished ∷ []
+
+-- the image's words
+abbrev pub readCounts : ReadResult → List ℕ
+readCounts r = readCount (r .answer) ∷ []
+
+-- the image's bytes
+abbrev pub writeCounts : WriteAnswer → List ℕ
+writeCounts r = writeSize r ∷ []

@@ -1,0 +1,1 @@
+// The codes of the exported calls and what each call leaves, by definition, with an example of each; no code.

@@ -1,0 +1,24 @@
+// One clock of the gate machine on a borrowed state.
+use gate_machine::GateOutcome;
+use gate_machine::GateResult;
+use gate_machine::run;
+use model::GateState;
+ghost use Rattle.gate_machine.specs.Calls.{GateRuns};
+ghost use Rattle.lent_clock.specs.Calls.{LentClock};
+
+// A run of one clock.
+fn clock(memory: &mut [u32], waits: &[u16], state: GateState) -> GateResult
+    ensures { λ r. ⌜ GateRuns (now (memory .entry)) (now (waits .entry)) state 1 (now (memory .exit)) r ⌝ }
+{
+    run(memory, waits, state, 1)
+}
+
+// One clock on a borrowed state: copied out, clocked by value, stored.
+pub fn clock_lent(memory: &mut [u32], waits: &[u16], state: &mut GateState) -> GateOutcome
+    ensures { λ r. ⌜ LentClock (now (memory .entry)) (now (waits .entry)) (now (state .entry)) (now (memory .exit)) (now (state .exit)) r ⌝ }
+{
+    let s = *state;
+    let r = clock(memory, waits, s);
+    *state = r.state;
+    r.outcome
+}

@@ -1,0 +1,105 @@
+//! Cases that generated ones seldom meet, each for a fault it would show.
+
+use super::{images, programs};
+use reference::generate::program::Program;
+use reference::image::to_bytes;
+use reference::rng::Rng;
+use reference::{Flags, Instruction, Machine, Operand};
+
+const ALL: Flags = Flags {
+    carry: true,
+    overflow: true,
+    negative: true,
+    zero: true,
+};
+
+/// What the cases did, as of generated ones.
+#[derive(Default)]
+pub struct Tally {
+    pub programs: programs::Tally,
+    pub images: images::Tally,
+}
+
+/// Returns how many cases there are.
+pub fn check(rng: &mut Rng, tally: &mut Tally) -> Result<usize, String> {
+    let mut programs = borders();
+    programs.push(a_put_back());
+    for program in &programs {
+        programs::check_program(rng, program, &mut tally.programs)?;
+    }
+    let images = two_faults();
+    for bytes in &images {
+        images::check_image(rng, bytes, 4, &mut tally.images)?;
+    }
+    Ok(programs.len() + images.len())
+}
+
+/// Operations 1 to 7 where carry and overflow turn, with the carry set.
+fn borders() -> Vec<Program> {
+    const PAIRS: [(u32, u32); 6] = [
+        (1, 0x8000_0000),
+        (0x8000_0000, 0),
+        (0x8000_0000, 0x7FFF_FFFF),
+        (0x7FFF_FFFF, 0x7FFF_FFFF),
+        (0xFFFF_FFFF, 0x7FFF_FFFF),
+        (0xFFFF_FFFF, 0xFFFF_FFFF),
+    ];
+    let mut programs = Vec::new();
+    for operation in 1..=7 {
+        for (a, b) in PAIRS {
+            programs.push(one_instruction(
+                Instruction {
+                    a: Operand::Direct(1),
+                    b: Operand::Direct(2),
+                    permit: ALL,
+                    is_move: false,
+                    operation,
+                },
+                [0, a, b, 0, 0, 0, 0, 0],
+            ));
+        }
+    }
+    programs
+}
+
+/// B is outside after A's register has stepped down: it must be put back.
+fn a_put_back() -> Program {
+    let instruction = Instruction {
+        a: Operand::Before(3),
+        b: Operand::Before(4),
+        permit: ALL,
+        is_move: false,
+        operation: 3,
+    };
+    one_instruction(instruction, [0, 0, 0, 2, 100, 0, 0, 0])
+}
+
+fn one_instruction(instruction: Instruction, registers: [u32; 8]) -> Program {
+    Program {
+        memory: vec![instruction.encode(), 9, 0, 0],
+        waits: Vec::new(),
+        start: Machine {
+            registers,
+            flags: Flags {
+                carry: true,
+                ..Flags::default()
+            },
+        },
+        count: 1,
+    }
+}
+
+/// Two faults in one field: the tag comes before the length, the length before the value.
+fn two_faults() -> Vec<Vec<u8>> {
+    let good = to_bytes(&Machine::default(), &[0x0001_0021, 5]).expect("two words make an image");
+    [[0, 1], [4, 5], [39, 40], [47, 49], [1, 3], [40, 42]]
+        .iter()
+        .map(|places| {
+            let mut bytes = good.clone();
+            for &place in places {
+                bytes[place] ^= 0x40;
+            }
+            bytes
+        })
+        .collect()
+}
