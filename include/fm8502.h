@@ -108,8 +108,8 @@ uint32_t fm8502_run(uint32_t *memory, size_t memory_words, const uint16_t *waits
  * Runs up to count instructions, at most FM8502_MOST_INSTRUCTIONS, without waits.
  * Store number i to memory puts address and former word at journal[2 * i] and
  * journal[2 * i + 1]; other places do not change. Where fm8502_run would be
- * stopped, memory and machine go back to the start and the journal keeps its
- * pairs (FM8502_STOPPED: "undone").
+ * stopped, memory goes back to the start, machine is not written and the journal
+ * keeps its pairs (FM8502_STOPPED: "undone").
  * journal: at least 2 * count places.
  * result, 2 places: instructions that ran, also if undone; pairs in the journal.
  * Codes: 0, 1, 2, 5, 6, 100, 200.

@@ -1,6 +1,6 @@
 #!/usr/bin/env bash
 # Builds and runs the C, Rust and Python examples; each must print what the reference emulator computed. The reasons to refuse a call read
-# alike in all three.
+# alike in all three. What Python refuses of its own accord is tried too.
 # The static library comes first: rt staticlib host.
 set -euo pipefail
 cd "$(dirname "$0")/.."
@@ -37,3 +37,4 @@ prints_expected Rust bindings/rust/target/release/examples/stacking examples
 
 bash bindings/python/build.sh
 prints_expected Python env PYTHONDONTWRITEBYTECODE=1 python3 bindings/python/example.py examples
+PYTHONDONTWRITEBYTECODE=1 python3 bindings/python/checks.py

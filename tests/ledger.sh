@@ -35,3 +35,8 @@ for name in stacking outside; do
     cp "examples/$name.image" "$work/input"
     prints "examples/$name.image" "$(tail -n 1 "examples/$name.ledger")"
 done
+
+# ./ledger builds the program again where a source is newer
+touch -d 2000-01-01 "$ledger"
+./ledger examples/stacking.image 2>"$work/text" | cmp -s - examples/stacking.ledger || { echo "ledger: after another build: not examples/stacking.ledger" >&2; cat "$work/text" >&2; exit 1; }
+[ "$ledger" -nt crates.txt ] || { echo "ledger: an old program was not built again" >&2; exit 1; }

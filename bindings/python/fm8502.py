@@ -1,8 +1,9 @@
 """Calls of the proved FM8502 emulator.
 
-Memory and journal are lent as array('I'), wait lists as array('H'), images as
-bytes. A call that is turned down raises Refused with the paper's number and
-leaves everything it was lent as it was.
+Memory and journal are lent as array('I') or a numpy array of uint32, wait lists
+as array('H') or of uint16, images as bytes. What can be written is lent without a
+copy; no two arrays of a call may share places. A call that is turned down raises
+Refused with the paper's number and leaves everything it was lent as it was.
 """
 
 import ctypes
@@ -55,7 +56,9 @@ class Machine:
     flags: list = field(default_factory=lambda: [False] * 4)
 
     def _words(self):
-        return [*self.registers, *map(int, self.flags)]
+        if len(self.registers) != 8 or len(self.flags) != 4:
+            raise ValueError("a machine has eight registers and four flags")
+        return [*map(int, self.registers), *map(int, self.flags)]
 
     def _take(self, words):
         self.registers = list(words[:8])
@@ -130,19 +133,31 @@ def _places(kind, buffer):
     view = memoryview(buffer)
     if view.itemsize != ctypes.sizeof(kind) or view.format.lstrip("@=<") not in _FORMATS[kind]:
         raise TypeError(f"unsigned elements of {ctypes.sizeof(kind)} bytes are needed")
+    if view.ndim != 1:
+        raise TypeError(f"an array of one dimension is needed, not of {view.ndim}")
+    if not view.c_contiguous:
+        raise TypeError("an array whose elements lie one behind the other is needed")
     return len(view)
 
 
 def _lent(kind, buffer):
-    """Pointer and length of a buffer that the call may write."""
-    places = _places(kind, buffer)
-    return (kind * places).from_buffer(buffer), c_size_t(places)
+    """A buffer that the call may write, without a copy."""
+    return (kind * _places(kind, buffer)).from_buffer(buffer)
 
 
 def _shown(kind, buffer):
-    """Pointer and length of a buffer that the call only reads."""
-    places = _places(kind, buffer)
-    return (kind * places).from_buffer_copy(buffer), c_size_t(places)
+    """A buffer that the call only reads; ctypes takes one that is not to be written as a copy."""
+    if memoryview(buffer).readonly:
+        return (kind * _places(kind, buffer)).from_buffer_copy(buffer)
+    return _lent(kind, buffer)
+
+
+def _apart(*arrays):
+    """Pointer and length of each array; no two may share places."""
+    ends = sorted((ctypes.addressof(a), ctypes.addressof(a) + ctypes.sizeof(a)) for a in arrays if len(a))
+    if any(end > start for (_, end), (start, _) in zip(ends, ends[1:])):
+        raise ValueError("two arrays that are lent share places")
+    return [argument for a in arrays for argument in (a, c_size_t(len(a)))]
 
 
 def _call(name, *arguments):
@@ -150,8 +165,7 @@ def _call(name, *arguments):
     call = getattr(_library, "fm8502_" + name)
     call.restype = c_uint32
     code = call(*arguments)
-    if code == _MISFIT:
-        raise ValueError("a machine has eight registers and four flags")
+    assert code != _MISFIT, "this module lends words and results of the lengths due"
     if code not in (_DONE, _STOPPED):
         raise Refused(code)
     return code
@@ -172,36 +186,39 @@ def _count(number, bits):
 
 def _changing(name, lent, state, middle, places):
     """A call that changes a machine or state in place; its code and result."""
-    words = _word_array(state._words())
+    former = state._words()
+    words = _word_array(former)
     result = (c_uint64 * places)()
     code = _call(name, *lent, words, c_size_t(len(words)), *middle, result, c_size_t(places))
-    state._take(words[:])
+    # "Undone" leaves the words, and so the machine, as they were.
+    if words[:] != former:
+        state._take(words[:])
     return code, result
 
 
 def run(memory, waits, machine, count):
     """Runs up to count instructions with the wait list."""
-    lent = (*_lent(c_uint32, memory), *_shown(c_uint16, waits))
+    lent = _apart(_lent(c_uint32, memory), _shown(c_uint16, waits))
     code, result = _changing("run", lent, machine, [_count(count, 32)], 2)
     return Run(finished=code == _DONE, ran=result[0], clocks=result[1])
 
 
 def file_run(memory, journal, machine, count):
     """Runs up to count instructions; a run that comes outside is taken back whole."""
-    lent = (*_lent(c_uint32, memory), *_lent(c_uint32, journal))
+    lent = _apart(_lent(c_uint32, memory), _lent(c_uint32, journal))
     code, result = _changing("file_run", lent, machine, [_count(count, 32)], 2)
     return FileRun(finished=code == _DONE, ran=result[0], pairs=result[1])
 
 
 def gate_run(memory, waits, state, clocks):
     """Does so many clocks of the gate machine; returns the instructions finished."""
-    lent = (*_lent(c_uint32, memory), *_shown(c_uint16, waits))
+    lent = _apart(_lent(c_uint32, memory), _shown(c_uint16, waits))
     return _changing("gate_run", lent, state, [_count(clocks, 64)], 1)[1][0]
 
 
 def clock(memory, waits, state):
     """Does one clock; returns whether an instruction finished."""
-    lent = (*_lent(c_uint32, memory), *_shown(c_uint16, waits))
+    lent = _apart(_lent(c_uint32, memory), _shown(c_uint16, waits))
     return bool(_changing("clock", lent, state, [], 1)[1][0])
 
 
@@ -214,15 +231,14 @@ def read_image(image, room):
     """The machine and the memory of an image of at most `room` words."""
     memory = array("I", bytes(4 * room))
     machine = Machine()
-    lent = (*_shown(c_uint8, image), *_lent(c_uint32, memory))
+    lent = _apart(_shown(c_uint8, image), _lent(c_uint32, memory))
     words = _changing("image_read", lent, machine, [], 1)[1][0]
     return machine, memory[:words]
 
 
 def write_image(memory, machine):
     """The image of a memory and a machine."""
-    out = bytearray(image_size(len(memory)))
-    words = _word_array(machine._words())
-    lent = (*_shown(c_uint32, memory), words, c_size_t(len(words)), *_lent(c_uint8, out))
-    _call("image_write", *lent, (c_uint64 * 1)(), c_size_t(1))
+    shown = _shown(c_uint32, memory)
+    out = (c_uint8 * image_size(len(shown)))()
+    _call("image_write", *_apart(shown, _word_array(machine._words()), out, (c_uint64 * 1)()))
     return bytes(out)

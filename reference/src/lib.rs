@@ -16,6 +16,7 @@ pub mod ledger;
 pub mod machine;
 pub mod refusal;
 pub mod rng;
+pub mod vectors;
 
 pub use file_run::{file_run, FileAnswer, FileResult};
 pub use gates::{gate_clock, gate_run, GateResult, GateState};

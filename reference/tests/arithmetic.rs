@@ -6,50 +6,8 @@ use common::machine;
 use reference::alu::alu;
 use reference::gate_alu::{gate_alu, ripple_add};
 use reference::rng::Rng;
+use reference::vectors::vectors;
 use reference::{run, Answer};
-
-/// 100 vectors for each operation, computed by the arithmetic unit of the
-/// FM9001. With the move bit 0 its operations, carries and overflows are those
-/// of the FM8502, so none has to be mapped; N and Z follow from the result.
-const VECTORS: &str = include_str!("../vectors/fm9001-alu.txt");
-
-struct Vector {
-    operation: u8,
-    a: u32,
-    b: u32,
-    carry_in: bool,
-    result: u32,
-    carry: bool,
-    overflow: bool,
-}
-
-fn vectors() -> Vec<Vector> {
-    let lines = VECTORS.lines().filter(|line| !line.starts_with('#'));
-    lines.map(vector).collect()
-}
-
-/// A line `operation a b c : result C V`.
-fn vector(line: &str) -> Vector {
-    let fields: Vec<&str> = line.split_whitespace().collect();
-    let [operation, a, b, carry_in, ":", result, carry, overflow] = fields[..] else {
-        panic!("not a vector: {line}");
-    };
-    let word = |text| u32::from_str_radix(text, 16).unwrap();
-    let bit = |text| match text {
-        "0" => false,
-        "1" => true,
-        _ => panic!("not a bit: {line}"),
-    };
-    Vector {
-        operation: operation.parse().unwrap(),
-        a: word(a),
-        b: word(b),
-        carry_in: bit(carry_in),
-        result: word(result),
-        carry: bit(carry),
-        overflow: bit(overflow),
-    }
-}
 
 #[test]
 fn vectors_of_the_fm9001() {

@@ -1,6 +1,6 @@
 //! That the generated programs reach what they are meant to reach.
 
-use reference::generate::program::{any_program, program, Kind, Program};
+use reference::generate::program::{any_program, looping_program, program, Kind, Program};
 use reference::rng::Rng;
 use reference::{run, step, Answer, Instruction, Operand};
 use std::collections::HashSet;
@@ -119,4 +119,20 @@ fn one_seed_gives_the_same_programs_again() {
     };
     assert_eq!(programs(17), programs(17));
     assert_ne!(programs(17), programs(18));
+}
+
+#[test]
+fn looping_programs_never_leave_memory() {
+    let mut rng = Rng::new(15);
+    for _ in 0..200 {
+        let Program {
+            mut memory,
+            waits,
+            start,
+            count,
+        } = looping_program(&mut rng);
+        let result = run(&mut memory, &waits, start, count);
+        assert_eq!((result.answer, result.ran), (Answer::Finished, count));
+        assert!(count >= 2_000);
+    }
 }

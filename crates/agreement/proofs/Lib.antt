@@ -1,3 +1,6 @@
 mod Series
 mod TwoRuns
 mod Starred
+mod AnyWaits
+mod FileAsRun
+mod Supposed

@@ -1,3 +1,6 @@
 pub mod Series
 pub mod TwoRuns
 pub mod Starred
+pub mod AnyWaits
+pub mod FileAsRun
+pub mod Supposed

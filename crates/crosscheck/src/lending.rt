@@ -2,17 +2,8 @@
 use gate_machine::GateAnswer;
 use gate_machine::GateOutcome;
 use gate_machine::GateResult;
-use lent_clock::clock_lent;
+use lent_clock::clock_once;
 use model::GateState;
-ghost use Rattle.lent_clock.specs.Calls.{LentClock};
-
-// The one function here with a reference to a struct: its proof is by hand, and its callers need none.
-fn clock_once(memory: &mut [u32], waits: &[u16], mut state: GateState) -> GateResult
-    ensures { λ r. ⌜ LentClock (now (memory .entry)) (now (waits .entry)) state (now (memory .exit)) (r .state) (r .outcome) ⌝ }
-{
-    let outcome = clock_lent(memory, waits, &mut state);
-    GateResult { outcome, state }
-}
 
 // One clock more on what the clocks before it left.
 fn one_more(memory: &mut [u32], waits: &[u16], before: GateResult) -> GateResult {

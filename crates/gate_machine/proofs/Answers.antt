@@ -1,6 +1,6 @@
 -- A gate run that is accepted or turned down meets its contract, and what the contract says of one that is carried out.
 use Prim.Native.Nat.{ℕ}
-use mathlib.Core.Path.{_≡_, sym, ap, _∙_}
+use mathlib.Core.Path.{_≡_, refl, sym, ap, _∙_}
 use mathlib.Core.List.{List}
 use Rattle.model.specs.declared.GateState.{GateState}
 use Rattle.model.specs.declared.Refusal.{Refusal}
@@ -11,7 +11,7 @@ use Rattle.model.specs.Refusals.{verdictNumber, leftBy, gateVerdict}
 use Rattle.model.specs.Agreement.{gateFrom}
 use Rattle.gate_machine.specs.declared.GateAnswer.{GateAnswer}
 use Rattle.gate_machine.specs.declared.GateResult.{GateResult}
-use Rattle.gate_machine.specs.Calls.{gateResult, gateReturned, gateWords, GateRuns}
+use Rattle.gate_machine.specs.Calls.{gateResult, gateNumber, gateReturned, gateWords, GateRuns}
 
 module _ (memory waits : List ℕ) (start : GateState) (clocks : ℕ) {v : Verdict} (said : v ≡ gateVerdict memory waits start) where
   abbrev end : Gate
@@ -43,6 +43,17 @@ module _ {memory waits : List ℕ} {start : GateState} {clocks : ℕ} {v : Verdi
         words = left memory waits start clocks said e;
         number = ap verdictNumber (sym e ∙ said);
       }
+
+-- what the contract says is what some call returns and leaves
+pub gate-contracted : (memory waits : List ℕ) (start : GateState) (clocks : ℕ)
+    → GateRuns memory waits start clocks (gateWords memory waits start clocks) (gateReturned memory waits start clocks)
+unfolding gateReturned
+gate-contracted memory waits start clocks =
+    record { result = refl; words = refl; number = numbered (gateVerdict memory waits start) (gateRun waits clocks (gateFrom start memory)) }
+  where
+    numbered : (v : Verdict) (g : Gate) → gateNumber (gateResult v start g .outcome .answer) ≡ verdictNumber v
+    numbered Accepted g = refl
+    numbered (Refused why) g = refl
 
 -- what a call that is carried out returns and leaves
 pub carried-out : (memory waits : List ℕ) (start : GateState) (clocks : ℕ) {memory′ : List ℕ} {r : GateResult}

@@ -2,7 +2,6 @@
 use super::compute::compute;
 use super::latches::Latches;
 use model::Operand;
-use operands::in_memory;
 use operands::load;
 use operands::operand_a;
 use operands::operand_b;
@@ -65,7 +64,13 @@ fn prepare(s: Latches, o: Operand, second: bool, regs: &mut [u32; 8], step: Step
     let Step(memory, direct, _, _) = step;
     step_down(o, regs);
     let word = register_word(o, &*regs);
-    if in_memory(o) {
+    let addressed = match o {
+        Operand::Direct(_) => false,
+        Operand::Indirect(_) => true,
+        Operand::Before(_) => true,
+        Operand::After(_) => true,
+    };
+    if addressed {
         return latch_address(s, word, memory);
     }
     if second {

@@ -1,14 +1,16 @@
 -- The exported calls over the calls that they pass on: what is lent has not the layout's lengths, or it has, and the call within ended so.
 use Prim.Native.Nat.{ℕ}
 use mathlib.Core.Path.{_≡_}
-use mathlib.Core.Bool.{true, false, not}
+use mathlib.Core.Bool.{Bool, true, false, not, cond}
 use mathlib.Core.List.{List}
 use lib.ListN.{length}
+use Rattle.model.specs.declared.GateState.{GateState}
 use Rattle.interpreter.specs.declared.RunResult.{RunResult}
 use Rattle.interpreter.specs.declared.FileResult.{FileResult}
 use Rattle.interpreter.specs.Calls.{Runs, FileRuns}
 use Rattle.gate_machine.specs.declared.GateResult.{GateResult}
 use Rattle.gate_machine.specs.Calls.{GateRuns}
+use Rattle.lent_clock.specs.Calls.{LentClock}
 use Rattle.image.specs.declared.ReadResult.{ReadResult}
 use Rattle.image.specs.declared.WriteAnswer.{WriteAnswer}
 use Rattle.image.specs.Calls.{Reads, Writes}
@@ -25,13 +27,13 @@ use Rattle.host_ends.proofs.Fitting.{ends-fitting}
 -- the end of a call on a lent machine that is formed
 module _ (machine result : List ℕ) (due : ℕ) (lent : MachineLent) (e : lent ≡ machineLent machine (length result) due)
     (n : not (lent .formed) ≡ false) where
-  ended : {code : ℕ} {words counts machine′ result′ : List ℕ} {number : ℕ}
-      → Ends code machineSize words due counts machine result machine′ result′ number
+  ended : {written : ℕ → Bool} {code : ℕ} {words counts machine′ result′ : List ℕ} {number : ℕ}
+      → Ends written code machineSize words due counts machine result machine′ result′ number
       → let comes = codeIf (lentFormed machineSize due (length machine) (length result)) code in
-      (number ≡ comes) × (machine′ ≡ afterCall comes words machine) × (result′ ≡ afterCall comes counts result)
+      (number ≡ comes) × (machine′ ≡ cond (written comes) words machine) × (result′ ≡ afterCall comes counts result)
   ended g =
       let f = lent-fits (machine-tested machine (length result) due lent e) n in
-      ends-fitting _ f machineSize due _ _ _ machine result _ _ _ (lent-tests machineSize due (length machine) (length result) f) g
+      ends-fitting _ _ f machineSize due _ _ _ machine result _ _ _ (lent-tests machineSize due (length machine) (length result) f) g
 
 module _ (memory waits machine : List ℕ) (count : ℕ) (result : List ℕ) (lent : MachineLent)
     (e : lent ≡ machineLent machine (length result) runPlaces) where
@@ -93,13 +95,23 @@ module _ (memory waits state : List ℕ) (clocks : ℕ) (result : List ℕ) (len
       let start = state-start state (length result) lent e n in
       let same = rw start at (runs .result) in
       let h = lent-tests stateSize countPlaces (length state) (length result) f in
-      let ends = ends-fitting _ f stateSize countPlaces _ _ _ state result _ _ _ h g in
+      let ends = ends-fitting _ _ f stateSize countPlaces _ _ _ state result _ _ _ h g in
       record {
         returned = rw (← same) (ends .0);
         words = rw f (rw start at (runs .words));
         parts = rw (← same) (ends .1);
         numbers = rw (← same) (ends .2);
       }
+
+-- one clock on a lent state is a gate run of one
+pub lent-runs : {memory waits memory′ : List ℕ} {state : GateState} {r : GateResult} → LentClock memory waits state memory′ (r .state) (r .outcome)
+    → GateRuns memory waits state 1 memory′ r
+lent-runs h =
+    record {
+      result = λ i. record { outcome = h .result i; state = h .advanced i };
+      words = h .words;
+      number = h .number;
+    }
 
 module _ (bytes memory machine result : List ℕ) (lent : MachineLent) (e : lent ≡ machineLent machine (length result) countPlaces) where
   pub read-misfit : not (lent .formed) ≡ true → ReadCall bytes memory machine result memory machine result misfit

@@ -10,6 +10,7 @@ use host_reading::COUNT_PLACES;
 use host_reading::RUN_PLACES;
 use host_reading::machine_lent;
 use host_reading::state_lent;
+use lent_clock::clock_once;
 ghost use Rattle.host_calls.specs.Calls.{RunCall, FileCall, GateCall, ReadCall, WriteCall};
 
 // A run of the interpreter. `result`: instructions that ran, clock total.
@@ -79,7 +80,12 @@ pub extern "C" fn fm8502_clock(
 ) -> u32
     ensures { λ r. ⌜ GateCall (now (memory .entry)) (now (waits .entry)) (now (state .entry)) 1 (now (result .entry)) (now (memory .exit)) (now (state .exit)) (now (result .exit)) r ⌝ }
 {
-    fm8502_gate_run(memory, waits, state, 1, result)
+    let lent = state_lent(&*state, result.len());
+    if !lent.formed {
+        return MISFIT;
+    }
+    let r = clock_once(memory, waits, lent.state);
+    end_gate_run(r, state, result)
 }
 
 // Reads an image: its words to the front of `memory`, its machine. `result`: the image's words.

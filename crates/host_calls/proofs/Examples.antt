@@ -57,9 +57,9 @@ file-run : FileCall (0x122 ∷ []) (used 2) (machine 0 0 5) 1 (used 2)
 unfolding field bit operandA operandB answers aluAt aluOf isMove operation alu flagsAfter stores execute advance interpret storedBy journalPairs journalWords fileVerdict fileReturned fileWords filePlaces machineIn lentFormed machineWords
 file-run = record { returned = refl; words = refl; places = refl; parts = refl; numbers = refl }
 
--- the same and one more, which is outside: memory and machine are put back, the journal has the store
-file-run-undone : FileCall (0x122 ∷ []) (used 4) (machine 0 0 5) 2 (used 2)
-    (0x122 ∷ []) (0 ∷ 0x122 ∷ 9 ∷ 9 ∷ []) (machine 0 0 5) (1 ∷ 1 ∷ []) 100
+-- the same and one more, which is outside: memory and machine stay, even flag words of 9, and the journal has the store
+file-run-undone : FileCall (0x122 ∷ []) (used 4) (0 ∷ replicate 7 0 ++ used 4) 2 (used 2)
+    (0x122 ∷ []) (0 ∷ 0x122 ∷ 9 ∷ 9 ∷ []) (0 ∷ replicate 7 0 ++ used 4) (1 ∷ 1 ∷ []) 100
 unfolding field bit operandA operandB isMove stores execute stop advance interpret storedBy journalPairs journalWords fileVerdict fileReturned fileWords filePlaces machineIn lentFormed machineWords
 file-run-undone = record { returned = refl; words = refl; places = refl; parts = refl; numbers = refl }
 

@@ -16,7 +16,7 @@ use Rattle.image.specs.declared.WriteAnswer.{WriteAnswer}
 use Rattle.image.specs.Calls.{writeNumber, writeReturned, writeBytes, readNumber, readReturned, readWords}
 use Rattle.host_reading.specs.Layout.{runPlaces, countPlaces, machineSize, machineIn, stateSize, stateIn, lentFormed}
 use Rattle.host_words.specs.Words.{machineWords, stateWords}
-use Rattle.host_calls.specs.Codes.{codeIf, afterCall, runCode, fileCode}
+use Rattle.host_calls.specs.Codes.{codeIf, afterCall, afterFile, runCode, fileCode}
 use Rattle.host_calls.specs.Codes.{runCounts, fileCounts, gateCounts, readCounts, writeCounts}
 
 -- whether a lent machine, and a result of so many places as are due, have the layout's lengths
@@ -57,7 +57,7 @@ module _ (memory journal machine : List ℕ) (count : ℕ) (result : List ℕ) w
     pub returned : number ≡ fileComesTo
     pub words : memory′ ≡ cond (machineFormed runPlaces machine result) (fileWords memory journal (machineIn machine) count) memory
     pub places : journal′ ≡ cond (machineFormed runPlaces machine result) (filePlaces memory journal (machineIn machine) count) journal
-    pub parts : machine′ ≡ afterCall fileComesTo (machineWords (fileWithin .machine)) machine
+    pub parts : machine′ ≡ afterFile fileComesTo (machineWords (fileWithin .machine)) machine
     pub numbers : result′ ≡ afterCall fileComesTo (fileCounts fileWithin) result
 
 -- ---- fm8502_gate_run: a gate run; fm8502_clock: one clock

@@ -44,9 +44,17 @@ codeIf fits code = cond fits code misfit
 abbrev pub carriedOut : (code : ℕ) → Bool
 carriedOut code = eqb code done || eqb code stopped
 
+-- carried out to its end
+abbrev pub finishes : (code : ℕ) → Bool
+finishes code = eqb code done
+
 -- a lent slice after the call: what a call that was carried out puts there, or as it was
 abbrev pub afterCall : (code : ℕ) → (put former : List ℕ) → List ℕ
 afterCall code put former = cond (carriedOut code) put former
+
+-- a lent machine after a file run, which puts its machine there where it finished; "undone" leaves the words as they were
+abbrev pub afterFile : (code : ℕ) → (put former : List ℕ) → List ℕ
+afterFile code put former = cond (finishes code) put former
 
 -- ---- the numbers for the result's places
 

@@ -1,43 +1,64 @@
 -- A call's end, by whether it was carried out and by what the call within answered.
 use Prim.Native.Nat.{ℕ}
-use mathlib.Core.Path.{_≡_, refl}
-use mathlib.Core.Bool.{true, false}
+use mathlib.Core.Path.{_≡_}
+use mathlib.Core.Bool.{Bool, true, false}
 use mathlib.Core.List.{List, [], _∷_}
 use native.Mathlib.Omega.{arith}
 use borrow.Author.Tests.{ne-eqb}
 use Rattle.model.specs.declared.Refusal.{Refusal}
 use Rattle.model.specs.Refusals.{refusalNumber}
 use Rattle.model.proofs.Verdicts.{numbered}
+use Rattle.interpreter.specs.declared.RunResult.{RunResult}
+use Rattle.interpreter.specs.declared.FileAnswer.{FileAnswer}
+use Rattle.interpreter.specs.declared.FileResult.{FileResult}
 use Rattle.gate_machine.specs.declared.GateAnswer.{GateAnswer}
 use Rattle.gate_machine.specs.declared.GateResult.{GateResult}
 use Rattle.image.specs.declared.ReadAnswer.{ReadAnswer}
 use Rattle.image.specs.declared.ReadResult.{ReadResult}
 use Rattle.image.specs.declared.WriteAnswer.{WriteAnswer}
-use Rattle.host_reading.specs.Layout.{countPlaces, machineSize, stateSize}
+use Rattle.host_reading.specs.Layout.{runPlaces, countPlaces, machineSize, stateSize}
 use Rattle.host_words.specs.Words.{machineWords, stateWords, laid}
-use Rattle.host_calls.specs.Codes.{done, stopped, carriedOut, gateCounts}
-use Rattle.host_ends.specs.Ends.{Ends, GateEnds, ReadEnds, WriteEnds}
+use Rattle.host_calls.specs.Codes.{done, stopped, carriedOut, finishes, runCode, runCounts, fileCounts, gateCounts}
+use Rattle.host_ends.specs.Ends.{Ends, RunEnds, FileEnds, GateEnds, ReadEnds, WriteEnds}
 
 -- a refusal's number is no code of a call that was carried out
-turned-down : (why : Refusal) → carriedOut (refusalNumber why) ≡ false
+pub turned-down : (why : Refusal) → carriedOut (refusalNumber why) ≡ false
 turned-down why =
     let h = numbered why in
     rw (ne-eqb (refusalNumber why) done (omega arith), ne-eqb (refusalNumber why) stopped (omega arith))
 
-module _ (code size : ℕ) (words : List ℕ) (due : ℕ) (counts lent result : List ℕ) where
-  pub ends-written : carriedOut code ≡ true → (lent′ result′ : List ℕ) → lent′ ≡ laid size words lent → result′ ≡ laid due counts result
-      → Ends code size words due counts lent result lent′ result′ code
-  ends-written e lent′ result′ w p = record { returned = refl; parts = rw e w; numbers = rw e p }
+module _ (written : ℕ → Bool) (code size : ℕ) (words : List ℕ) (due : ℕ) (counts lent result : List ℕ) where
+  -- where no refusal's code is one with which the machine or state is written
+  pub ends-refused : ((why : Refusal) → written (refusalNumber why) ≡ false) → (why : Refusal) → code ≡ refusalNumber why
+      → (number : ℕ) → number ≡ refusalNumber why
+      → Ends written code size words due counts lent result lent result number
+  ends-refused unwritten why e number n = record { returned = rw e n; parts = rw (e, unwritten why); numbers = rw (e, turned-down why) }
 
-  pub ends-unwritten : carriedOut code ≡ false → (number : ℕ) → number ≡ code
-      → Ends code size words due counts lent result lent result number
-  ends-unwritten e number n = record { returned = n; parts = rw e; numbers = rw e }
+pub not-finished : (why : Refusal) → finishes (refusalNumber why) ≡ false
+not-finished why = ne-eqb (refusalNumber why) done (omega (arith, numbered why .0))
 
-  pub ends-refused : (why : Refusal) → code ≡ refusalNumber why → (number : ℕ) → number ≡ refusalNumber why
-      → Ends code size words due counts lent result lent result number
-  ends-refused why e number n = ends-unwritten (rw e (turned-down why)) number (rw e n)
+-- a run's end, by the code that its answer comes to
+module _ (r : RunResult) (code : ℕ) (n : code ≡ runCode (r .answer)) (lent result : List ℕ) where
+  pub run-written : carriedOut code ≡ true → (lent′ result′ : List ℕ) → lent′ ≡ laid machineSize (machineWords (r .machine)) lent
+      → result′ ≡ laid runPlaces (runCounts r) result → RunEnds r lent result lent′ result′ code
+  run-written e lent′ result′ w p =
+      let f = rw n at e in
+      record { returned = n; parts = rw f w; numbers = rw f p }
+
+  pub run-unwritten : carriedOut code ≡ false → RunEnds r lent result lent result code
+  run-unwritten e =
+      let f = rw n at e in
+      record { returned = n; parts = rw f; numbers = rw f }
+
+pub file-undone : (r : FileResult) (lent result result′ : List ℕ) → r .answer ≡ FileAnswer.Undone
+    → result′ ≡ laid runPlaces (fileCounts r) result → FileEnds r lent result lent result′ stopped
+file-undone r lent result result′ e p = record { returned = rw e; parts = rw e; numbers = rw e p }
 
 module _ (lent result lent′ result′ : List ℕ) where
+  pub file-finished : (r : FileResult) → r .answer ≡ FileAnswer.Finished → lent′ ≡ laid machineSize (machineWords (r .machine)) lent
+      → result′ ≡ laid runPlaces (fileCounts r) result → FileEnds r lent result lent′ result′ done
+  file-finished r e w p = record { returned = rw e; parts = rw e w; numbers = rw e p }
+
   pub gate-done : (r : GateResult) → r .outcome .answer ≡ GateAnswer.Ran → lent′ ≡ laid stateSize (stateWords (r .state)) lent
       → result′ ≡ laid countPlaces (gateCounts r) result → GateEnds r lent result lent′ result′ done
   gate-done r e w p = record { returned = rw e; parts = rw e w; numbers = rw e p }

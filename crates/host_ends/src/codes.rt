@@ -1,10 +1,9 @@
 // The codes that a call returns beside a refusal's number, 1 to 15: carried out; carried out and ended "outside" or "undone"; what is lent
 // has not the layout's lengths.
-use interpreter::FileAnswer;
 use interpreter::RunAnswer;
 use refusals::refusal_number;
 ghost use mathlib.Core.Path.{_≡_};
-ghost use Rattle.host_calls.specs.Codes.{runCode, fileCode};
+ghost use Rattle.host_calls.specs.Codes.{runCode};
 
 pub const DONE: u32 = 0;
 
@@ -19,15 +18,5 @@ pub fn run_code(answer: RunAnswer) -> u32
         RunAnswer::Finished => DONE,
         RunAnswer::Outside => STOPPED,
         RunAnswer::Refused(why) => refusal_number(why),
-    }
-}
-
-pub fn file_code(answer: FileAnswer) -> u32
-    ensures { λ r. ⌜ r ≡ fileCode answer ⌝ }
-{
-    match answer {
-        FileAnswer::Finished => DONE,
-        FileAnswer::Undone => STOPPED,
-        FileAnswer::Refused(why) => refusal_number(why),
     }
 }

@@ -5,7 +5,6 @@ mod places;
 use codes::DONE;
 pub use codes::MISFIT;
 use codes::STOPPED;
-use codes::file_code;
 use codes::run_code;
 use gate_machine::GateAnswer;
 use gate_machine::GateResult;
@@ -14,49 +13,42 @@ use host_words::put_state;
 use image::ReadAnswer;
 use image::ReadResult;
 use image::WriteAnswer;
+use interpreter::FileAnswer;
 use interpreter::FileResult;
 use interpreter::RunResult;
-use model::Machine;
 use places::put_one;
 use places::put_two;
 use refusals::refusal_number;
-ghost use mathlib.Core.List.{[], _∷_};
-ghost use Rattle.host_reading.specs.Layout.{runPlaces, machineSize};
-ghost use Rattle.host_words.specs.Words.{machineWords};
-ghost use Rattle.host_ends.specs.Ends.{Ends, RunEnds, FileEnds, GateEnds, ReadEnds, WriteEnds};
-
-// The end of a call that counts instructions: its machine, the instructions that ran, and its other number.
-fn end_counted(
-    code: u32,
-    m: Machine,
-    ran: u32,
-    other: u64,
-    machine: &mut [u32],
-    result: &mut [u64],
-) -> u32
-    ensures { λ r. ⌜ Ends code machineSize (machineWords m) runPlaces (ran ∷ other ∷ []) (now (machine .entry)) (now (result .entry)) (now (machine .exit)) (now (result .exit)) r ⌝ }
-{
-    if (code == DONE) | (code == STOPPED) {
-        put_machine(m, machine);
-        put_two(ran as u64, other, result);
-    }
-    code
-}
+ghost use Rattle.host_ends.specs.Ends.{RunEnds, FileEnds, GateEnds, ReadEnds, WriteEnds};
 
 pub fn end_run(r: RunResult, machine: &mut [u32], result: &mut [u64]) -> u32
     ensures { λ code. ⌜ RunEnds r (now (machine .entry)) (now (result .entry)) (now (machine .exit)) (now (result .exit)) code ⌝ }
 {
     let answer = r.answer;
     let code = run_code(answer);
-    end_counted(code, r.machine, r.ran, r.clocks, machine, result)
+    if (code == DONE) | (code == STOPPED) {
+        put_machine(r.machine, machine);
+        put_two(r.ran as u64, r.clocks, result);
+    }
+    code
 }
 
 pub fn end_file_run(r: FileResult, machine: &mut [u32], result: &mut [u64]) -> u32
     ensures { λ code. ⌜ FileEnds r (now (machine .entry)) (now (result .entry)) (now (machine .exit)) (now (result .exit)) code ⌝ }
 {
     let answer = r.answer;
-    let code = file_code(answer);
-    end_counted(code, r.machine, r.ran, r.pairs as u64, machine, result)
+    match answer {
+        FileAnswer::Refused(why) => refusal_number(why),
+        FileAnswer::Undone => {
+            put_two(r.ran as u64, r.pairs as u64, result);
+            STOPPED
+        }
+        FileAnswer::Finished => {
+            put_machine(r.machine, machine);
+            put_two(r.ran as u64, r.pairs as u64, result);
+            DONE
+        }
+    }
 }
 
 pub fn end_gate_run(r: GateResult, state: &mut [u32], result: &mut [u64]) -> u32

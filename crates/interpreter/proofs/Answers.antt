@@ -63,6 +63,11 @@ module _ (memory waits : List ℕ) (start : Machine) (count : ℕ) where
         number = ap (λ (r : RunResult). runNumber (r .answer)) full ∙ numbered n ran;
       }
 
+  -- what the contract says is what some run returns and leaves
+  pub run-contracted : Runs memory waits start count (runWords memory waits start count) (runReturned memory waits start count)
+  unfolding runReturned runWords
+  run-contracted = as-result (runVerdict memory waits) refl refl refl
+
   -- what a run that is carried out returns, and leaves in the memory
   module _ {r : RunResult} {memory′ : List ℕ} (v : runVerdict memory waits ≡ Accepted) (c : Runs memory waits start count memory′ r) where
     pub returned : r ≡ runResult Accepted start ran
@@ -112,6 +117,16 @@ module _ (memory journal : List ℕ) (start : Machine) (count : ℕ) where
         places = j ∙ ap (λ (v : Verdict). leftBy v (overlay (journalWords (journalPairs [] count (begin start memory 0))) journal) journal) e;
         number = ap (λ (r : FileResult). fileNumber (r .answer)) full ∙ file-numbered (fileVerdict memory journal count) filed n;
       }
+
+  -- what a file run that is carried out returns, and leaves in the memory
+  module _ {r : FileResult} {memory′ journal′ : List ℕ} (v : fileVerdict memory journal count ≡ Accepted) (c : FileRuns memory journal start count memory′ journal′ r) where
+    pub file-returned : r ≡ fileEnd (filed .ending) start filed (length (journalPairs [] count (begin start memory 0)))
+    unfolding fileReturned
+    file-returned = c .result ∙ ap (λ (w : Verdict). fileResult w start filed (length (journalPairs [] count (begin start memory 0)))) v
+
+    pub file-left : memory′ ≡ memoryEnd (filed .ending) memory filed
+    unfolding fileWords
+    file-left = c .words ∙ ap (λ (w : Verdict). leftBy w (memoryEnd (filed .ending) memory filed) memory) v
 
 module _ {memory journal : List ℕ} {start : Machine} {count : ℕ} {v : Verdict} (e : v ≡ fileVerdict memory journal count) where
   pub file-refused : {why : Refusal} → v ≡ Refused why

@@ -21,7 +21,7 @@ use Rattle.ledger_lines.specs.Lines.{refusedText, longestText, ledger}
 use Rattle.ledger_lines.proofs.Lengths.{ledger-length}
 use Rattle.ledger_text.specs.declared.ReportAnswer.{ReportAnswer}
 use Rattle.ledger_text.specs.Parts.{Extends, RunPuts}
-use Rattle.ledger_text.specs.Report.{ledgerWords, roomy, Reports}
+use Rattle.ledger_text.specs.Report.{ledgerWords, roomy, Reports, mostInput, memoryWords, inputText, ReportsInput}
 
 module _ {bytes memory out : List ℕ} where
   pub report-no-room : length out < longestText → Reports bytes memory out memory out ReportAnswer.NoRoom
@@ -92,16 +92,22 @@ module _ {bytes memory memory₁ : List ℕ} {r : ReadResult} (h : Reads bytes m
         reported (loaded (l .version) (r .machine) (l .words)) (l .is) room (run′ .text)
         (ap (λ (x : List ℕ). part ++ x) (after ∙ ap (λ (k : ℕ). drop k memory) (sym size)) ∙ ap (λ (x : List ℕ). overlay x memory) (run′ .words))
 
+-- the report on as much of an input as is read, in the program's memory
+pub input-reported : {bytes memory out memory′ out′ : List ℕ} {r : ReportAnswer} → Reports bytes memory out memory′ out′ r
+    → (input : List ℕ) → bytes ≡ take mostInput input → length memory ≡ memoryWords → ReportsInput input out out′ r
+input-reported h input e l = record { result = rw (e, l) at (h .result); size = rw (e, l) at (h .size); text = rw (e, l) at (h .text) }
+
 -- a text that is answered is within the output
+in-output : (text out : List ℕ) {out′ : List ℕ} {r : ReportAnswer} (n : ℕ) → r ≡ ReportAnswer.Text n → (t : Bool)
+    → r ≡ cond t (ReportAnswer.Text (length text)) ReportAnswer.NoRoom → out′ ≡ cond t (overlay text out) out → n ≤ length out′
+in-output text out n e true f g =
+    let k : n ≡ length text = cc in
+    omega (arith, ap length g, length-append text (drop (length text) out))
+in-output text out n e false f g = let z : _≡_ {A = ℕ} 0 1 = cc in omega arith
+
 pub text-within : {bytes memory out memory′ out′ : List ℕ} {r : ReportAnswer} → Reports bytes memory out memory′ out′ r
     → (n : ℕ) → r ≡ ReportAnswer.Text n → n ≤ length out′
-text-within {bytes} {memory} {out} {out′ = out′} {r = r} h n e = go (roomy out) (h .result) (h .text)
-  where
-    text : List ℕ
-    text = ledger (readOf bytes (length memory))
+text-within {bytes} {memory} {out} h n e = in-output (ledger (readOf bytes (length memory))) out n e (roomy out) (h .result) (h .text)
 
-    go : (t : Bool) → r ≡ cond t (ReportAnswer.Text (length text)) ReportAnswer.NoRoom → out′ ≡ cond t (overlay text out) out → n ≤ length out′
-    go true f g =
-        let k : n ≡ length text = cc in
-        omega (arith, ap length g, length-append text (drop (length text) out))
-    go false f g = let z : _≡_ {A = ℕ} 0 1 = cc in omega arith
+pub input-within : {input out out′ : List ℕ} {r : ReportAnswer} → ReportsInput input out out′ r → (n : ℕ) → r ≡ ReportAnswer.Text n → n ≤ length out′
+input-within {input} {out} h n e = in-output (inputText input) out n e (roomy out) (h .result) (h .text)

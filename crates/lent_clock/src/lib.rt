@@ -22,3 +22,11 @@ pub fn clock_lent(memory: &mut [u32], waits: &[u16], state: &mut GateState) -> G
     *state = r.state;
     r.outcome
 }
+
+// The same for callers that hold the state by value: it is lent for the clock. Its proof is by hand, and theirs need none.
+pub fn clock_once(memory: &mut [u32], waits: &[u16], mut state: GateState) -> GateResult
+    ensures { λ r. ⌜ LentClock (now (memory .entry)) (now (waits .entry)) state (now (memory .exit)) (r .state) (r .outcome) ⌝ }
+{
+    let outcome = clock_lent(memory, waits, &mut state);
+    GateResult { outcome, state }
+}

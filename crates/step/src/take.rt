@@ -1,6 +1,5 @@
 // An operand, taken: its register stepped down, its register's word, its value.
 use model::Operand;
-use operands::in_memory;
 use operands::load;
 use registers::register_word;
 use registers::set_register;
@@ -19,7 +18,13 @@ fn look(o: Operand, regs: &[u32; 8], memory: &[u32]) -> Taken
     ensures { λ r. ⌜ r ≡ takenOf o (now (regs .entry)) (now (memory .entry)) ⌝ }
 {
     let word = register_word(o, regs);
-    if in_memory(o) {
+    let addressed = match o {
+        Operand::Direct(_) => false,
+        Operand::Indirect(_) => true,
+        Operand::Before(_) => true,
+        Operand::After(_) => true,
+    };
+    if addressed {
         let i = word as usize;
         Taken {
             present: i < memory.len(),

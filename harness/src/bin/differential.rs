@@ -1,31 +1,41 @@
 //! Compares the proved calls with the reference emulator on generated and directed cases.
 
 use harness::arguments::{numbers, value};
-use harness::differential::{directed, gates, images, limits, misfits, programs, refusals, Check};
+use harness::differential::{
+    directed, gates, images, limits, long, misfits, programs, refusals, vectors, Check,
+};
 use reference::rng::Rng;
 use std::process::exit;
 
 const HELP: &str = "\
-Usage: differential [--programs N] [--seed S] [--images N] [--states N]
+Usage: differential [--programs N] [--seed S] [--loops N] [--images N] [--states N]
 
 Runs generated cases through the proved calls and through the reference
 emulator, and compares what they return and leave. Case i has seed S + i.
-Without numbers: 10000 programs, seed 1, and a tenth as many images and states
-as programs.
+Without numbers: 10000 programs, seed 1, a tenth as many images and states as
+programs, and a hundredth as many programs that loop.
 ";
 
 fn main() {
-    let given = numbers(&["--programs", "--seed", "--images", "--states"], HELP);
+    let given = numbers(
+        &["--programs", "--seed", "--loops", "--images", "--states"],
+        HELP,
+    );
     let programs = value(&given, "--programs", 10_000);
     let seed = value(&given, "--seed", 1);
+    let loops = value(&given, "--loops", programs / 100);
     let images = value(&given, "--images", programs / 10);
     let states = value(&given, "--states", programs / 10);
 
-    check_programs(seed, programs);
+    check_programs("programs", seed, programs, programs::check);
+    check_programs("loops", seed, loops, programs::check_looping);
+    check_long(seed);
     each(seed, states, "--states", gates::check_state);
     println!("{states} gate states agree, seed {seed}");
     check_images(seed, images);
     check_directed(seed);
+    let vectors = settle(vectors::check(), "outside vectors");
+    println!("{vectors} outside vectors agree");
     check_refusals(seed);
     println!("differential: all agree");
 }
@@ -47,15 +57,26 @@ fn settle<T>(outcome: Result<T, String>, options: &str) -> T {
     })
 }
 
-fn check_programs(seed: u64, cases: u64) {
+fn check_programs(
+    kind: &str,
+    seed: u64,
+    cases: u64,
+    check: impl Fn(&mut Rng, &mut programs::Tally) -> Check,
+) {
     let mut tally = programs::Tally::default();
-    each(seed, cases, "--programs", |rng| {
-        programs::check(rng, &mut tally)
+    each(seed, cases, &format!("--{kind}"), |rng| {
+        check(rng, &mut tally)
     });
-    println!(
-        "{cases} programs agree, seed {seed}: {} instructions, {} clocks, {} outside, {} journal pairs",
-        tally.instructions, tally.clocks, tally.outside, tally.journal_pairs
+    println!("{cases} {kind} agree, seed {seed}: {tally}");
+}
+
+fn check_long(seed: u64) {
+    let mut tally = programs::Tally::default();
+    settle(
+        long::check(&mut Rng::new(seed), &mut tally),
+        &format!("full lists and journals, --seed {seed}"),
     );
+    println!("full wait lists and journals agree, seed {seed}: {tally}");
 }
 
 fn check_images(seed: u64, cases: u64) {

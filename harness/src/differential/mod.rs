@@ -6,11 +6,13 @@ pub mod gates;
 pub mod images;
 mod lent;
 pub mod limits;
+pub mod long;
 pub mod misfits;
 mod outcome;
 pub mod programs;
 mod proved;
 pub mod refusals;
+pub mod vectors;
 
 use crate::text::hex_bytes;
 use outcome::Outcome;

@@ -1,9 +1,10 @@
-//! Generated programs: runs, file runs, and gate runs around the clock total.
+//! Programs: runs, file runs, and gate runs around the clock total.
 
 use super::{expected, gates, proved, run_case, same, Check};
 use fm8502::library::STOPPED;
-use reference::generate::program::{any_program, Program};
+use reference::generate::program::{any_program, looping_program, Program};
 use reference::rng::Rng;
+use std::fmt;
 
 /// What the programs did, to show that they do different things.
 #[derive(Default)]
@@ -14,8 +15,23 @@ pub struct Tally {
     pub journal_pairs: u64,
 }
 
+impl fmt::Display for Tally {
+    fn fmt(&self, f: &mut fmt::Formatter<'_>) -> fmt::Result {
+        write!(
+            f,
+            "{} instructions, {} clocks, {} outside, {} journal pairs",
+            self.instructions, self.clocks, self.outside, self.journal_pairs
+        )
+    }
+}
+
 pub fn check(rng: &mut Rng, tally: &mut Tally) -> Check {
     let program = any_program(rng);
+    check_program(rng, &program, tally)
+}
+
+pub fn check_looping(rng: &mut Rng, tally: &mut Tally) -> Check {
+    let program = looping_program(rng);
     check_program(rng, &program, tally)
 }
 
@@ -26,7 +42,7 @@ pub fn check_program(rng: &mut Rng, program: &Program, tally: &mut Tally) -> Che
 }
 
 /// Returns the clock total.
-fn check_run(program: &Program, tally: &mut Tally) -> Result<u64, String> {
+pub fn check_run(program: &Program, tally: &mut Tally) -> Result<u64, String> {
     let Program {
         memory,
         waits,

@@ -1,17 +1,19 @@
 //! Calls that are refused for one reason or for several: which number comes first.
 
 use super::{expected, proved, run_case, same, Check};
-use fm8502::library::STATE_SIZE;
+use fm8502::library::{self, MACHINE_SIZE, STATE_SIZE, STOPPED};
 use reference::generate::program::{program, Kind};
 use reference::generate::state::{gate_state, refused_gate_state};
 use reference::image::image_size;
 use reference::rng::Rng;
 use reference::{GateState, Machine};
+use std::ops::Range;
 
 /// No entries, and as many as the list may have, one more, and more.
 const LIST_LENGTHS: [usize; 4] = [0, 65_536, 65_537, 70_000];
 
 /// Places in a state's words.
+const FLAGS: Range<usize> = 8..12;
 const ROW: usize = 12;
 const BEGUN: usize = 19;
 const LEFT: usize = 20;
@@ -29,6 +31,7 @@ pub fn check(rng: &mut Rng) -> Result<usize, String> {
             calls += check_too_wide(memory, &waits[..entries])?;
         }
         calls += check_file_run(memory, &good.start)?;
+        calls += check_words_kept(memory, &waits)?;
         calls += check_write(memory, &good.start)?;
     }
     Ok(calls)
@@ -61,7 +64,7 @@ fn check_gate(rng: &mut Rng, memory: &[u32], waits: &[u16]) -> Result<usize, Str
 }
 
 /// Words that are no row of 8 bits or no clocks left of 16 bits are refused as a row
-/// above 11 is.
+/// above 11 is, and flags that are lent as 9 stay.
 fn check_too_wide(memory: &[u32], waits: &[u16]) -> Result<usize, String> {
     let bad_row = GateState {
         row: 255,
@@ -72,6 +75,7 @@ fn check_too_wide(memory: &[u32], waits: &[u16]) -> Result<usize, String> {
     let states = [(256, 0, 0), (0, 0, 65_536), (1, 1, 65_536)];
     for (row, begun, left) in states {
         let mut words = [0; STATE_SIZE];
+        words[FLAGS].fill(9);
         (words[ROW], words[BEGUN], words[LEFT]) = (row, begun, left);
         expected.words = words.to_vec();
         for proved in [
@@ -101,6 +105,40 @@ fn check_file_run(memory: &[u32], start: &Machine) -> Result<usize, String> {
         }
     }
     Ok(calls)
+}
+
+/// Refused or undone, a run leaves the machine's words, flags that are lent as 9
+/// among them. The program is outside before its second instruction.
+fn check_words_kept(memory: &[u32], long_waits: &[u16]) -> Result<usize, String> {
+    let mut machine = [0; MACHINE_SIZE];
+    machine[0] = memory.len().saturating_sub(1) as u32;
+    machine[FLAGS].fill(9);
+    let lent = machine;
+    let due = if memory.is_empty() {
+        [1; 4]
+    } else {
+        [3, 6, 6, STOPPED]
+    };
+
+    let [mut memory, mut journal] = [memory.to_vec(), vec![0; 18]];
+    let mut codes = vec![library::run(
+        &mut memory,
+        long_waits,
+        &mut machine,
+        9,
+        &mut [0; 2],
+    )];
+    for places in [0, 17, 18] {
+        let journal = &mut journal[..places];
+        let code = library::file_run(&mut memory, journal, &mut machine, 9, &mut [0; 2]);
+        codes.push(code);
+    }
+    if codes != due || machine != lent {
+        return Err(format!(
+            "a run and file runs with flags of 9: codes {codes:?}, machine {machine:?}\n"
+        ));
+    }
+    Ok(due.len())
 }
 
 fn check_write(memory: &[u32], start: &Machine) -> Result<usize, String> {

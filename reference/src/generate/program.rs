@@ -2,7 +2,7 @@
 
 use super::flags;
 use crate::instruction::{Instruction, Operand};
-use crate::machine::Machine;
+use crate::machine::{Flags, Machine};
 use crate::rng::Rng;
 
 /// Bits of an instruction word that have no effect.
@@ -68,6 +68,46 @@ pub fn program(rng: &mut Rng, kind: Kind) -> Program {
         start: start(rng, kind, length),
         count,
     }
+}
+
+/// A program that goes round for some thousands of instructions and never leaves
+/// memory: it sets the pointers r4 to r7 to the middle of its data, does a few
+/// tame instructions and jumps to its first word.
+pub fn looping_program(rng: &mut Rng) -> Program {
+    let body = rng.between(2, 24);
+    let code = 2 * 4 + body + 2;
+    // An instruction steps a pointer by two at most.
+    let data = 4 * body + 1;
+    let mut memory = Vec::with_capacity(code + data);
+    for pointer in 4..8 {
+        memory.extend([load(pointer), (code + 2 * body) as u32]);
+    }
+    memory.extend((0..body).map(|_| tame_word(rng)));
+    // The word taken steps r0 up too, to 0.
+    memory.extend([load(0), u32::MAX]);
+    memory.extend((0..data).map(|_| data_word(rng, code + data)));
+    let count = rng.between(2_000, 5_000) as u32;
+    Program {
+        memory,
+        waits: waits(rng, count as usize),
+        start: Machine {
+            registers: [0, rng.word(), rng.word(), rng.word(), 0, 0, 0, 0],
+            flags: flags(rng),
+        },
+        count,
+    }
+}
+
+/// The register is set to the word behind the instruction.
+fn load(register: u8) -> u32 {
+    let instruction = Instruction {
+        a: Operand::After(0),
+        b: Operand::Direct(register),
+        permit: Flags::default(),
+        is_move: false,
+        operation: 0,
+    };
+    instruction.encode()
 }
 
 /// The word at `at` of a memory of `length` words.

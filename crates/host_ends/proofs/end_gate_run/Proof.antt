@@ -1,7 +1,7 @@
 use mathlib.Core.Path.{ap}
 use borrow.Author.Needs.{needs}
 use Rattle.gate_machine.specs.Calls.{gateNumber}
-use Rattle.host_ends.proofs.Ends.{ends-refused, gate-done}
+use Rattle.host_ends.proofs.Ends.{turned-down, ends-refused, gate-done}
 use Rattle.host_ends.proofs.end_gate_run.Statement.{statement}
 use Rattle.host_ends.proofs.end_gate_run.Tie as tie
 
@@ -21,7 +21,7 @@ put-one-requires : tie.Need-put-one-requires
 put-one-requires c κs = search needs
 
 returns : tie.Need-returns
-returns c = ends-refused _ _ _ _ _ _ _ (c .before .before .answer .given .0 .0) (ap gateNumber (c .before .before .answer .given .1)) _ (c .refusal-number .ensures)
+returns c = ends-refused _ _ _ _ _ _ _ _ turned-down (c .before .before .answer .given .0 .0) (ap gateNumber (c .before .before .answer .given .1)) _ (c .refusal-number .ensures)
 
 same-length : tie.Need-same-length
 same-length c = search needs

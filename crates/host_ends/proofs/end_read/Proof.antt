@@ -1,7 +1,7 @@
 use mathlib.Core.Path.{ap}
 use borrow.Author.Needs.{needs}
 use Rattle.image.specs.Calls.{readNumber}
-use Rattle.host_ends.proofs.Ends.{ends-refused, read-done}
+use Rattle.host_ends.proofs.Ends.{turned-down, ends-refused, read-done}
 use Rattle.host_ends.proofs.end_read.Statement.{statement}
 use Rattle.host_ends.proofs.end_read.Tie as tie
 
@@ -24,7 +24,7 @@ put-one-requires : tie.Need-put-one-requires
 put-one-requires c κs = search needs
 
 returns : tie.Need-returns
-returns c = ends-refused _ _ _ _ _ _ _ (c .before .before .answer .given .0 .0) (ap readNumber (c .before .before .answer .given .1)) _ (c .refusal-number .ensures)
+returns c = ends-refused _ _ _ _ _ _ _ _ turned-down (c .before .before .answer .given .0 .0) (ap readNumber (c .before .before .answer .given .1)) _ (c .refusal-number .ensures)
 
 same-length : tie.Need-same-length
 same-length c = search needs

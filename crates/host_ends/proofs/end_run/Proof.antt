@@ -1,12 +1,19 @@
 use borrow.Author.Needs.{needs}
+use Rattle.host_ends.proofs.Ends.{run-written, run-unwritten}
 use Rattle.host_ends.proofs.end_run.Statement.{statement}
 use Rattle.host_ends.proofs.end_run.Tie as tie
 
 run-code-requires : tie.Need-run-code-requires
 run-code-requires c κs = search needs
 
-end-counted-requires : tie.Need-end-counted-requires
-end-counted-requires c κs = search needs
+put-machine-requires : tie.Need-put-machine-requires
+put-machine-requires c κs = search needs
+
+cast-put-two : tie.Need-cast-put-two
+cast-put-two c = search needs
+
+put-two-requires : tie.Need-put-two-requires
+put-two-requires c κs = search needs
 
 same-length : tie.Need-same-length
 same-length c = search needs
@@ -16,9 +23,21 @@ same-length-2 c = search needs
 
 returns : tie.Need-returns
 returns c =
-    let ended = c .before .before .before .before in
-    rw (ended .before .before .before .run-code .ensures) at (ended .end-counted .ensures)
+    let put = c .before .before .before .before .before .before .before in
+    run-written (put .before .before .before .before .before .before .args .r) _ (put .before .before .before .run-code .ensures) _ _ (put .before .before .if1 .taken) _ _ (put .put-machine .ensures) (c .before .before .put-two .ensures)
+
+returns-2 : tie.Need-returns-2
+returns-2 c = run-unwritten (c .before .before .before .before .args .r) _ (c .before .run-code .ensures) _ _ (c .if1 .left)
 
 pub end-run-spec : {M : Type 1} → statement M
 end-run-spec =
-    tie.close (tie.spec run-code-requires end-counted-requires same-length same-length-2 returns)
+    tie.close
+    (tie.spec
+    run-code-requires
+    put-machine-requires
+    cast-put-two
+    put-two-requires
+    same-length
+    same-length-2
+    returns
+    returns-2)

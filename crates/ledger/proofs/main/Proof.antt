@@ -1,7 +1,7 @@
 use mathlib.Core.Path.{sym}
 use lib.Seq.{length-take-le}
 use borrow.Author.Needs.{needs}
-use Rattle.ledger_text.proofs.Answers.{text-within}
+use Rattle.ledger_text.proofs.Answers.{input-within}
 use Rattle.ledger.proofs.main.Statement.{statement}
 use Rattle.ledger.proofs.main.Tie as tie
 
@@ -14,26 +14,23 @@ read-full-requires c κs = search needs
 array-share-prefix-input : tie.Need-array-share-prefix-input
 array-share-prefix-input c = search needs
 
-slice-aggregate-report : tie.Need-slice-aggregate-report
-slice-aggregate-report c = search needs
+slice-aggregate-report-input : tie.Need-slice-aggregate-report-input
+slice-aggregate-report-input c = search needs
 
-slice-aggregate-report-2 : tie.Need-slice-aggregate-report-2
-slice-aggregate-report-2 c = search needs
+slice-aggregate-report-input-2 : tie.Need-slice-aggregate-report-input-2
+slice-aggregate-report-input-2 c = search needs
 
-slice-aggregate-report-3 : tie.Need-slice-aggregate-report-3
-slice-aggregate-report-3 c = search needs
-
-report-requires : tie.Need-report-requires
-report-requires c κs = search needs
+report-input-requires : tie.Need-report-input-requires
+report-input-requires c κs = search needs
 
 enum-known-count : tie.Need-enum-known-count
 enum-known-count c = search needs
 
 array-share-prefix-text : tie.Need-array-share-prefix-text
-array-share-prefix-text c = text-within (c .before .before .before .before .before .report .ensures) (c .before .count .given .0 .0) (c .before .count .given .1)
+array-share-prefix-text c = input-within (c .before .before .before .before .report-input .ensures) (c .before .count .given .0 .0) (c .before .count .given .1)
 
 slice-aggregate-write-all : tie.Need-slice-aggregate-write-all
-slice-aggregate-write-all c = sym (length-take-le _ _ (text-within (c .before .before .before .before .before .before .report .ensures) (c .before .before .count .given .0 .0) (c .before .before .count .given .1)))
+slice-aggregate-write-all c = sym (length-take-le _ _ (input-within (c .before .before .before .before .before .report-input .ensures) (c .before .before .count .given .0 .0) (c .before .before .count .given .1)))
 
 write-all-requires : tie.Need-write-all-requires
 write-all-requires c κs = search needs
@@ -54,10 +51,9 @@ main-spec =
     slice-aggregate-read-full
     read-full-requires
     array-share-prefix-input
-    slice-aggregate-report
-    slice-aggregate-report-2
-    slice-aggregate-report-3
-    report-requires
+    slice-aggregate-report-input
+    slice-aggregate-report-input-2
+    report-input-requires
     enum-known-count
     array-share-prefix-text
     slice-aggregate-write-all

@@ -1,0 +1,103 @@
+"""What the module refuses before a call, and that arrays are lent without a copy.
+
+numpy is looked at where it is installed.
+"""
+
+import ctypes
+from array import array
+
+import fm8502
+
+try:
+    import numpy
+except ImportError:
+    numpy = None
+
+# inc r1, then dec r1 and set Z
+PROGRAM = (0x00010021, 0x00050421)
+
+
+def refuses(error, words, call, *arguments):
+    try:
+        call(*arguments)
+    except error as raised:
+        assert words in str(raised), raised
+    else:
+        raise AssertionError(f"{call.__name__} takes what it should refuse: {words}")
+
+
+def check_machine():
+    memory, waits = array("I", PROGRAM), array("H")
+    for registers, flags in ((9, 3), (7, 5), (8, 3), (0, 12)):
+        machine = fm8502.Machine([0] * registers, [False] * flags)
+        for call, lent in (
+            (fm8502.run, (memory, waits, machine, 1)),
+            (fm8502.file_run, (memory, array("I", [0] * 2), machine, 1)),
+            (fm8502.gate_run, (memory, waits, fm8502.GateState(machine), 1)),
+            (fm8502.clock, (memory, waits, fm8502.GateState(machine))),
+            (fm8502.write_image, (memory, machine)),
+        ):
+            refuses(ValueError, "eight registers and four flags", call, *lent)
+
+
+def check_shared():
+    memory = array("I", [*PROGRAM, 0, 0])
+    whole, machine = memoryview(memory), fm8502.Machine()
+    for first, second in ((memory, memory), (whole[:3], whole[2:]), (whole[1:], memory)):
+        refuses(ValueError, "share places", fm8502.file_run, first, second, machine, 1)
+    halves = memoryview(whole.cast("B")).cast("H")
+    refuses(ValueError, "share places", fm8502.run, memory, halves, machine, 1)
+    # Side by side is apart.
+    assert fm8502.file_run(whole[:2], whole[2:], machine, 1).finished
+
+
+def check_shapes():
+    machine, waits = fm8502.Machine(), array("H")
+    flat = memoryview(array("I", [*PROGRAM, 0, 0])).cast("B")
+    refuses(TypeError, "one dimension", fm8502.run, flat.cast("I", (2, 2)), waits, machine, 1)
+    refuses(TypeError, "one dimension", fm8502.write_image, flat.cast("I", (4, 1)), machine)
+    apart = flat.cast("I")[::2]
+    refuses(TypeError, "one behind the other", fm8502.run, apart, waits, machine, 1)
+    refuses(TypeError, "4 bytes", fm8502.run, array("H", [0]), waits, machine, 1)
+    refuses(TypeError, "4 bytes", fm8502.run, array("i", [0]), waits, machine, 1)
+
+
+def check_undone():
+    """A file run that is undone, or refused, leaves the machine as it was, flags of 9 too."""
+    memory, machine = array("I", PROGRAM), fm8502.Machine(flags=[9, 0, 9, 0])
+    assert not fm8502.file_run(memory, array("I", [0] * 6), machine, 3).finished
+    refuses(fm8502.Refused, "refused 6", fm8502.file_run, memory, array("I", [0]), machine, 3)
+    assert machine == fm8502.Machine(flags=[9, 0, 9, 0])
+    assert fm8502.run(memory, array("H"), machine, 1).finished
+    assert machine.registers[:2] == [1, 1] and machine.flags == [True, False, True, False]
+
+
+def check_numpy():
+    """What is lent is the array itself, also a wait list and a part of an array."""
+    words = numpy.array([*PROGRAM, 0, 0], dtype=numpy.uint32)
+    for lend in (fm8502._lent, fm8502._shown):
+        assert ctypes.addressof(lend(ctypes.c_uint32, words[1:])) == words[1:].ctypes.data
+    waits = numpy.array([2, 3], dtype=numpy.uint16)
+    assert ctypes.addressof(fm8502._shown(ctypes.c_uint16, waits)) == waits.ctypes.data
+    # inc (r2),(r2), in place: 11 clocks, of its four accesses two wait
+    memory = numpy.array([0x0001014A, 0, 0, 41], dtype=numpy.uint32)
+    machine = fm8502.Machine(registers=[0, 0, 3, 0, 0, 0, 0, 0])
+    assert fm8502.run(memory, waits, machine, 1).clocks == 16 and memory[3] == 42
+    for shape, error in (
+        (memory.reshape(2, 2), "one dimension"),
+        (memory[::2], "one behind the other"),
+        (memory.astype(numpy.int32), "4 bytes"),
+        (memory.astype(">u4"), "4 bytes"),
+    ):
+        refuses(TypeError, error, fm8502.run, shape, waits, machine, 1)
+        refuses(TypeError, error, fm8502.write_image, shape, machine)
+    refuses(ValueError, "share places", fm8502.file_run, memory, memory[3:], machine, 0)
+
+
+check_machine()
+check_shared()
+check_shapes()
+check_undone()
+if numpy is not None:
+    check_numpy()
+print("python: checked", "with numpy" if numpy is not None else "without numpy")

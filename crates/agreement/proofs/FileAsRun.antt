@@ -1,0 +1,50 @@
+-- The file run beside the run: the wait list changes nothing but the clocks.
+use Prim.Native.Nat.{ℕ}
+use mathlib.Core.Path.{_≡_, refl, sym, ap, _∙_}
+use mathlib.Core.List.{List, []}
+use lib.ListN.{length}
+use Rattle.model.specs.declared.Machine.{Machine}
+use Rattle.model.specs.declared.Ending.{Ending}
+use Rattle.model.specs.declared.Ending.the-variants.{Finished, Outside}
+use Rattle.model.specs.declared.Verdict.{Verdict}
+use Rattle.model.specs.declared.Verdict.the-variants.{Accepted}
+use Rattle.model.specs.Interpreter.{Run, begin, interpret}
+use Rattle.model.specs.Waiting.{Work, workOf}
+use Rattle.model.specs.Refusals.{runVerdict, fileVerdict}
+use Rattle.model.proofs.Waiting.{waits-only-wait}
+use Rattle.model.proofs.Verdicts.{accepted}
+use Rattle.interpreter.specs.declared.FileResult.{FileResult}
+use Rattle.interpreter.specs.Calls.{runAnswer, runResult, fileEnd, memoryEnd, fileResult}
+use Rattle.interpreter.proofs.Answers.{returned, left-in, file-returned, file-left}
+use Rattle.agreement.specs.FileAsRun.{AsRun, FileAsRun}
+
+-- the claim for work w, done by a run in so many clocks and by a file run with so many pairs
+module _ (memory : List ℕ) (start : Machine) (i j : Run) (same : workOf j ≡ workOf i) (pairs : ℕ) where
+  claim : AsRun memory start (i .memory) (runResult Accepted start i) (memoryEnd (j .ending) memory j) (fileEnd (j .ending) start j pairs)
+  claim = go (i .ending) refl (ap (λ (w : Work). w .ending) same)
+    where
+      go : (e : Ending) → i .ending ≡ e → j .ending ≡ i .ending
+          → AsRun memory start (i .memory) (runResult Accepted start i) (memoryEnd (j .ending) memory j) (fileEnd (j .ending) start j pairs)
+      go Finished e d =
+          rw (d, e)
+          (record {
+            answer = refl;
+            ran = ap (λ (w : Work). w .ran) same;
+            finished = λ _. (ap (λ (w : Work). w .machine) same, ap (λ (w : Work). w .memory) same);
+            outside = λ q. (cc, cc);
+          })
+      go Outside e d =
+          rw (d, e)
+          (record {
+            answer = refl;
+            ran = ap (λ (w : Work). w .ran) same;
+            finished = λ q. (cc, cc);
+            outside = λ _. (refl, refl);
+          })
+
+pub file-as-run : FileAsRun
+file-as-run memory waits journal start n r words c z f words′ journal′ d y =
+    let v = accepted (runVerdict memory waits) (sym (c .number) ∙ z) in
+    let u = accepted (fileVerdict memory journal n) (sym (d .number) ∙ y) in
+    rw (returned memory waits start n v c, left-in memory waits start n v c, file-returned memory journal start n u d, file-left memory journal start n u d)
+    (claim memory start (interpret waits n (begin start memory 0)) (interpret [] n (begin start memory 0)) (waits-only-wait [] waits start memory 0 0 n) _)

@@ -1,0 +1,22 @@
+-- Two runs from one start under different wait lists, in the terms of what the two calls return by their contract. Document 01, "Clocks".
+use Prim.Native.Nat.{ℕ}
+use mathlib.Core.Path.{_≡_}
+use mathlib.Core.List.{List}
+use Rattle.model.specs.declared.Machine.{Machine}
+use Rattle.interpreter.specs.declared.RunResult.{RunResult}
+use Rattle.interpreter.specs.Calls.{Runs, runNumber}
+
+-- One run returned r and left `words`, the other returned r′ and left `words′`: all but the clocks is alike.
+pub record Alike (words : List ℕ) (r : RunResult) (words′ : List ℕ) (r′ : RunResult) : Type 0 where
+  pub answer : r .answer ≡ r′ .answer
+  pub machine : r .machine ≡ r′ .machine
+  pub ran : r .ran ≡ r′ .ran
+  pub memory : words ≡ words′
+
+-- for every memory, start and n, under any two wait lists, where neither run is turned down
+abbrev pub AnyWaits : Type 0
+AnyWaits =
+    (memory waits waits′ : List ℕ) (start : Machine) (n : ℕ)
+    → (r : RunResult) (words : List ℕ) → Runs memory waits start n words r → runNumber (r .answer) ≡ 0
+    → (r′ : RunResult) (words′ : List ℕ) → Runs memory waits′ start n words′ r′ → runNumber (r′ .answer) ≡ 0
+    → Alike words r words′ r′

@@ -1,0 +1,34 @@
+-- The wait list changes neither machine, memory, count nor ending of a run.
+use Prim.Native.Nat.{ℕ, zero, suc}
+use mathlib.Core.Path.{_≡_, refl, sym, ap, _∙_}
+use mathlib.Core.Bool.{Bool, true, false, cond}
+use mathlib.Core.List.{List, []}
+use Rattle.model.specs.declared.Ending.{Ending}
+use Rattle.model.specs.declared.Ending.the-variants.{Finished, Outside}
+use Rattle.model.specs.Interpreter.{Run, inside, execute, stop, advance, interpret}
+use Rattle.model.specs.Waiting.{Work, workOf, WaitsOnlyWait}
+
+-- a run that did this work, with no clocks and at the head of its list
+abbrev bare : Work → Run
+bare w = record { machine = w .machine; memory = w .memory; position = 0; ran = w .ran; clocks = 0; ending = w .ending }
+
+-- one more instruction's work
+next : Work → Work
+next w = workOf (advance [] (bare w))
+
+advance-work : (waits : List ℕ) (r : Run) → workOf (advance waits r) ≡ next (workOf r)
+unfolding next advance execute stop
+advance-work waits r = go (r .ending) (inside (r .memory) (r .machine))
+  where
+    go : (e : Ending) (t : Bool)
+        → workOf (elim e [ Finished ↦ cond t (execute waits r) (stop Outside r) | Outside ↦ r ])
+        ≡ workOf (elim e [ Finished ↦ cond t (execute [] (bare (workOf r))) (stop Outside (bare (workOf r))) | Outside ↦ bare (workOf r) ])
+    go Finished true = refl
+    go Finished false = refl
+    go Outside t = refl
+
+pub waits-only-wait : WaitsOnlyWait
+unfolding interpret
+waits-only-wait waits waits′ start memory p p′ zero = refl
+waits-only-wait waits waits′ start memory p p′ (suc n) =
+    advance-work waits _ ∙ ap next (waits-only-wait waits waits′ start memory p p′ n) ∙ sym (advance-work waits′ _)
