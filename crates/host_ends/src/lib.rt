@@ -1,4 +1,5 @@
-// What a call of the host library writes at its end, and the code that it returns. Nothing is written unless the call was carried out.
+// What a call of the host library writes at its end, and the code that it returns. Nothing is written unless the call was carried out; a file run
+// that is undone writes its result alone.
 mod codes;
 mod places;
 
