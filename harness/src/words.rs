@@ -1,8 +1,8 @@
-//! The machine and the gate state as the words that the library takes.
+//! The machine, the gate state and instructions as the words that the library takes.
 
 use crate::case_words::latch_words;
 use fm8502::library::{MACHINE_SIZE, STATE_SIZE};
-use reference::{Flags, GateState, Machine};
+use reference::{Flags, GateState, Instruction, Machine, Operand};
 
 /// r0 to r7, C, V, N, Z.
 pub fn machine_words(machine: &Machine) -> [u32; MACHINE_SIZE] {
@@ -46,4 +46,16 @@ pub fn state_of(words: &[u32]) -> GateState {
         begun: words[19] != 0,
         left: words[20] as u16,
     }
+}
+
+/// Operation `operation` on the operands, with permits for C, V, N, Z.
+pub fn compute(operation: u8, permit: [bool; 4], a: Operand, b: Operand) -> u32 {
+    let instruction = Instruction {
+        a,
+        b,
+        permit: Flags::from_array(permit),
+        is_move: false,
+        operation,
+    };
+    instruction.encode()
 }

@@ -5,7 +5,7 @@ use crate::machine::Machine;
 use crate::refusal::{check_memory, Refusal};
 
 /// The most instructions of one file.
-const MOST_INSTRUCTIONS: u32 = 65_536;
+pub const MOST_INSTRUCTIONS: u32 = 65_536;
 
 /// How a file run ended.
 #[derive(Clone, Copy, Debug, PartialEq, Eq)]

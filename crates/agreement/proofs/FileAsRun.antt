@@ -2,23 +2,20 @@
 use Prim.Native.Nat.{ℕ}
 use mathlib.Core.Path.{_≡_, refl, sym, ap, _∙_}
 use mathlib.Core.List.{List, []}
-use lib.ListN.{length}
 use Rattle.model.specs.declared.Machine.{Machine}
 use Rattle.model.specs.declared.Ending.{Ending}
 use Rattle.model.specs.declared.Ending.the-variants.{Finished, Outside}
-use Rattle.model.specs.declared.Verdict.{Verdict}
 use Rattle.model.specs.declared.Verdict.the-variants.{Accepted}
 use Rattle.model.specs.Interpreter.{Run, begin, interpret}
 use Rattle.model.specs.Waiting.{Work, workOf}
 use Rattle.model.specs.Refusals.{runVerdict, fileVerdict}
 use Rattle.model.proofs.Waiting.{waits-only-wait}
 use Rattle.model.proofs.Verdicts.{accepted}
-use Rattle.interpreter.specs.declared.FileResult.{FileResult}
-use Rattle.interpreter.specs.Calls.{runAnswer, runResult, fileEnd, memoryEnd, fileResult}
+use Rattle.interpreter.specs.Calls.{runResult, fileEnd, memoryEnd}
 use Rattle.interpreter.proofs.Answers.{returned, left-in, file-returned, file-left}
 use Rattle.agreement.specs.FileAsRun.{AsRun, FileAsRun}
 
--- the claim for work w, done by a run in so many clocks and by a file run with so many pairs
+-- the claim for a run i and a file run j that did the same work
 module _ (memory : List ℕ) (start : Machine) (i j : Run) (same : workOf j ≡ workOf i) (pairs : ℕ) where
   claim : AsRun memory start (i .memory) (runResult Accepted start i) (memoryEnd (j .ending) memory j) (fileEnd (j .ending) start j pairs)
   claim = go (i .ending) refl (ap (λ (w : Work). w .ending) same)

@@ -10,7 +10,7 @@ use Rattle.interpreter.specs.Calls.{runReturned, runWords}
 use Rattle.interpreter.proofs.Answers.{run-contracted}
 use Rattle.gate_machine.proofs.Answers.{gate-contracted}
 use Rattle.agreement.specs.Series.{Series, one, more}
-use Rattle.agreement.specs.Supposed.{InCalls, Supposed, CanBeMet}
+use Rattle.agreement.specs.Supposed.{InCalls, CanBeMet}
 
 module _ (memory waits : List ℕ) (start : GateState) where
   -- a series of k clocks in all

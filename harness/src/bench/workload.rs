@@ -1,8 +1,9 @@
 //! The programs that are measured.
 
+use crate::words::compute;
 use fm8502::library::{MACHINE_SIZE, STATE_SIZE};
 use reference::rng::Rng;
-use reference::{Flags, Instruction, Operand};
+use reference::Operand;
 use Operand::{After, Direct, Indirect};
 
 // Operations.
@@ -61,18 +62,6 @@ impl Workload {
         state[..MACHINE_SIZE].copy_from_slice(&self.machine);
         state
     }
-}
-
-/// Operation `operation` on the operands, with permits for C, V, N, Z.
-fn compute(operation: u8, permit: [bool; 4], a: Operand, b: Operand) -> u32 {
-    let instruction = Instruction {
-        a,
-        b,
-        permit: Flags::from_array(permit),
-        is_move: false,
-        operation,
-    };
-    instruction.encode()
 }
 
 /// A move under a condition.

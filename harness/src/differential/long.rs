@@ -3,18 +3,20 @@
 
 use super::programs::{self, Tally};
 use super::Check;
+use crate::words::compute;
+use reference::file_run::MOST_INSTRUCTIONS;
 use reference::generate::program::Program;
 use reference::refusal::MOST_WAITS;
 use reference::rng::Rng;
-use reference::{Flags, Instruction, Machine, Operand};
+use reference::{Machine, Operand};
 
-/// The most instructions of a file run, and so its most stores.
-const MOST_STORES: usize = 65_536;
-
-/// Operations.
+// Operations.
 const MOVE: u8 = 0;
-const INC: u8 = 1;
+const INCREMENT: u8 = 1;
 const ADD: u8 = 3;
+
+/// No flag is permitted.
+const NONE: [bool; 4] = [false; 4];
 
 pub fn check(rng: &mut Rng, tally: &mut Tally) -> Check {
     let short = (0..MOST_WAITS).map(|_| rng.between(1, 4) as u16).collect();
@@ -31,17 +33,6 @@ pub fn check(rng: &mut Rng, tally: &mut Tally) -> Check {
     Ok(())
 }
 
-fn word(operation: u8, a: Operand, b: Operand) -> u32 {
-    let instruction = Instruction {
-        a,
-        b,
-        permit: Flags::default(),
-        is_move: false,
-        operation,
-    };
-    instruction.encode()
-}
-
 /// Two instructions in a loop, six accesses a turn, until after the list's end:
 /// the last word counts the turns, and the jump takes r0 to the top address, from
 /// which it steps up to 0.
@@ -51,8 +42,8 @@ fn passing_its_list(waits: Vec<u16>) -> Program {
     let turns = waits.len() as u32 / 6 + 2;
     Program {
         memory: vec![
-            word(INC, Operand::Indirect(4), Operand::Indirect(4)),
-            word(MOVE, Operand::After(0), Operand::Direct(0)),
+            compute(INCREMENT, NONE, Operand::Indirect(4), Operand::Indirect(4)),
+            compute(MOVE, NONE, Operand::After(0), Operand::Direct(0)),
             u32::MAX,
             0,
         ],
@@ -65,18 +56,19 @@ fn passing_its_list(waits: Vec<u16>) -> Program {
 /// As many stores as a journal can need, each to a word of its own; or all but
 /// one of them, the last instruction being outside.
 fn full_journal(rng: &mut Rng, outside: bool) -> Program {
-    let mut memory = vec![word(ADD, Operand::Direct(1), Operand::After(4)); MOST_STORES];
+    let count = MOST_INSTRUCTIONS as usize;
+    let mut memory = vec![compute(ADD, NONE, Operand::Direct(1), Operand::After(4)); count];
     if outside {
-        memory[MOST_STORES - 1] = word(ADD, Operand::Direct(1), Operand::Before(5));
+        memory[count - 1] = compute(ADD, NONE, Operand::Direct(1), Operand::Before(5));
     }
-    memory.extend((0..MOST_STORES).map(|_| rng.word()));
+    memory.extend((0..count).map(|_| rng.word()));
     let mut start = Machine::default();
     start.registers[1] = 7;
-    start.registers[4] = MOST_STORES as u32;
+    start.registers[4] = MOST_INSTRUCTIONS;
     Program {
         memory,
         waits: Vec::new(),
         start,
-        count: MOST_STORES as u32,
+        count: MOST_INSTRUCTIONS,
     }
 }

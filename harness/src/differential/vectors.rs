@@ -4,9 +4,9 @@
 use super::lent::guard;
 use super::outcome::Outcome;
 use super::{proved, same, Check};
-use crate::words::machine_words;
+use crate::words::{compute, machine_words};
 use reference::vectors::{vectors, Vector};
-use reference::{Flags, GateState, Instruction, Machine, Operand};
+use reference::{Flags, GateState, Machine, Operand};
 
 /// An instruction on registers that stores its result.
 const CLOCKS: u64 = 9;
@@ -22,14 +22,8 @@ pub fn check() -> Result<usize, String> {
 
 /// As an instruction on r1 and r2 with all flags permitted, in each kind of run.
 fn check_vector(vector: &Vector) -> Check {
-    let instruction = Instruction {
-        a: Operand::Direct(1),
-        b: Operand::Direct(2),
-        permit: Flags::from_array([true; 4]),
-        is_move: false,
-        operation: vector.operation,
-    };
-    let memory = [instruction.encode()];
+    let [a, b] = [Operand::Direct(1), Operand::Direct(2)];
+    let memory = [compute(vector.operation, [true; 4], a, b)];
     let carry = Flags::from_array([vector.carry_in, false, false, false]);
     let start = machine(0, vector.a, vector.b, carry);
     let flags = [
