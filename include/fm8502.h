@@ -32,7 +32,7 @@ extern "C" {
 
 enum {
     FM8502_MOST_WORDS = 16777216,     /* the longest memory */
-    FM8502_MOST_WAITS = 65536,        /* the longest wait list, and the highest position */
+    FM8502_MOST_WAITS = 65536,        /* the longest wait list */
     FM8502_MOST_INSTRUCTIONS = 65536, /* the longest file run */
     FM8502_MACHINE_SIZE = 12,         /* the words of a machine */
     FM8502_STATE_SIZE = 21            /* the words of a gate state */
@@ -57,7 +57,7 @@ enum {
     FM8502_A = 15,
     FM8502_B = 16,
     FM8502_RESULT = 17,
-    FM8502_POSITION = 18, /* in the wait list */
+    FM8502_POSITION = 18, /* of the next entry of the wait list, below its length; 0 for an empty list */
     FM8502_BEGUN = 19,    /* whether an access has begun: as a flag */
     FM8502_LEFT = 20      /* its clocks left, the completing one included; above 65,535: FM8502_BAD_GATE_STATE */
 };
@@ -89,7 +89,9 @@ enum {
 /* ---- Calls
  *
  * memory: 1 to FM8502_MOST_WORDS words (fm8502_image_read: any number).
- * waits: at most FM8502_MOST_WAITS entries.
+ * waits: at most FM8502_MOST_WAITS entries. Each access to memory takes the next
+ * entry and waits so many clocks; after the last entry the list begins again. An
+ * empty list (NULL, 0) means no waits.
  * machine_words is 12, state_words 21; result_places is named at each call.
  */
 
@@ -97,6 +99,7 @@ enum {
  * Runs up to count instructions, and stops before one that needs a word that the
  * memory does not have (FM8502_STOPPED). Memory and machine are then those before
  * that instruction.
+ * The wait list is taken from its beginning.
  * result, 2 places: instructions that ran; their clock total, waits included.
  * Codes: 0, 1, 2, 3, 100, 200.
  */
@@ -120,7 +123,8 @@ uint32_t fm8502_file_run(uint32_t *memory, size_t memory_words, uint32_t *journa
 
 /*
  * Does so many clocks of the gate machine. To start between instructions at the
- * head of the wait list: the machine's 12 words, and 0 in the other 9.
+ * head of the wait list: the machine's 12 words, and 0 in the other 9. A run that
+ * follows on is lent the state, with its list position, and the same list.
  * result, 1 place: instructions finished in these clocks.
  * Codes: 0, 1, 2, 3, 4, 200.
  */

@@ -79,10 +79,10 @@ def check_numpy():
         assert ctypes.addressof(lend(ctypes.c_uint32, words[1:])) == words[1:].ctypes.data
     waits = numpy.array([2, 3], dtype=numpy.uint16)
     assert ctypes.addressof(fm8502._shown(ctypes.c_uint16, waits)) == waits.ctypes.data
-    # inc (r2),(r2), in place: 11 clocks, of its four accesses two wait
+    # inc (r2),(r2), in place: 11 clocks, and its four accesses wait 2, 3, 2, 3
     memory = numpy.array([0x0001014A, 0, 0, 41], dtype=numpy.uint32)
     machine = fm8502.Machine(registers=[0, 0, 3, 0, 0, 0, 0, 0])
-    assert fm8502.run(memory, waits, machine, 1).clocks == 16 and memory[3] == 42
+    assert fm8502.run(memory, waits, machine, 1).clocks == 21 and memory[3] == 42
     for shape, error in (
         (memory.reshape(2, 2), "one dimension"),
         (memory[::2], "one behind the other"),

@@ -67,7 +67,11 @@ class Machine:
 
 @dataclass
 class GateState:
-    """The gate machine between two clocks; by default, between instructions."""
+    """The gate machine between two clocks; by default, between instructions.
+
+    position is that of the next entry of the wait list: below the list's length,
+    or 0 for an empty list.
+    """
 
     machine: Machine = field(default_factory=Machine)
     row: int = 0
@@ -197,7 +201,11 @@ def _changing(name, lent, state, middle, places):
 
 
 def run(memory, waits, machine, count):
-    """Runs up to count instructions with the wait list."""
+    """Runs up to count instructions with the wait list, from its beginning.
+
+    Each access to memory takes the next entry and waits so many clocks; after the
+    last entry the list begins again, and an empty list means no waits.
+    """
     lent = _apart(_lent(c_uint32, memory), _shown(c_uint16, waits))
     code, result = _changing("run", lent, machine, [_count(count, 32)], 2)
     return Run(finished=code == _DONE, ran=result[0], clocks=result[1])
@@ -211,7 +219,10 @@ def file_run(memory, journal, machine, count):
 
 
 def gate_run(memory, waits, state, clocks):
-    """Does so many clocks of the gate machine; returns the instructions finished."""
+    """Does so many clocks of the gate machine; returns the instructions finished.
+
+    The wait list is as for run, but goes on from the state's position.
+    """
     lent = _apart(_lent(c_uint32, memory), _shown(c_uint16, waits))
     return _changing("gate_run", lent, state, [_count(clocks, 64)], 1)[1][0]
 

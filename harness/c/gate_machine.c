@@ -23,6 +23,7 @@ INLINE bool access_completes(State *s, size_t words, const uint16_t *waits, size
         s->begun = --s->left > 0;
     } else if (s->position < entries) {
         s->left = waits[s->position++];
+        if (s->position == entries) s->position = 0;
         s->begun = s->left > 0;
     }
     return !s->begun;

@@ -22,9 +22,12 @@ typedef struct {
 
 enum { DIRECT = 0, BEFORE = 2, AFTER = 3 };
 
-// The wait of the next access.
+// The wait of the next access; after its last entry the list begins again.
 INLINE uint32_t next_wait(Engine *e) {
-    return e->position < e->entries ? e->waits[e->position++] : 0;
+    if (e->entries == 0) return 0;
+    uint32_t wait = e->waits[e->position++];
+    if (e->position == e->entries) e->position = 0;
+    return wait;
 }
 
 // Takes an operand; false if its word is missing.

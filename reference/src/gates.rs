@@ -1,9 +1,10 @@
-//! The gate machine: document 01's twelve rows, one of them on each clock.
+//! The gate machine: document 01's twelve rows, one of them on each clock, and
+//! document 02's wait list, which begins again at its end (CR 3).
 
 use crate::gate_alu::gate_alu;
 use crate::instruction::{Instruction, Operand};
 use crate::machine::{Flags, Machine};
-use crate::refusal::{check_memory, check_waits, Refusal, MOST_WAITS};
+use crate::refusal::{check_memory, check_waits, Refusal};
 
 /// The state between two clocks.
 #[derive(Clone, Copy, Debug, Default, PartialEq, Eq)]
@@ -17,7 +18,7 @@ pub struct GateState {
     pub a: u32,
     pub b: u32,
     pub result: u32,
-    /// Entries of the wait list already taken.
+    /// Which entry of the wait list the next access takes, from 0; 0 for an empty list.
     pub position: u32,
     /// Whether the row's access has taken its entry but is not complete.
     pub begun: bool,
@@ -101,13 +102,22 @@ fn check(memory: &[u32], waits: &[u16], state: &GateState) -> Result<(), Refusal
     check_waits(waits.len())?;
     let is_access = matches!(state.row, 1 | 4 | 6 | 9);
     if state.row > 11
-        || state.position as usize > MOST_WAITS
+        || !position_fits(waits.len(), state.position)
         || state.begun && !is_access
         || state.begun != (state.left > 0)
     {
         return Err(Refusal::BadGateState);
     }
     Ok(())
+}
+
+/// Below the list's length, or 0 for an empty list (CR 3).
+fn position_fits(entries: usize, position: u32) -> bool {
+    if entries == 0 {
+        position == 0
+    } else {
+        (position as usize) < entries
+    }
 }
 
 /// One row, or one clock of an access. The rows follow the table whatever the
@@ -194,7 +204,7 @@ fn access(memory: &mut [u32], waits: &[u16], state: &mut GateState) -> Clock {
         state.left -= 1;
     } else if let Some(&wait) = waits.get(state.position as usize) {
         state.left = wait;
-        state.position += 1;
+        state.position = (state.position + 1) % waits.len() as u32;
     }
     state.begun = state.left > 0;
     if state.begun {

@@ -47,7 +47,8 @@ pub fn run(memory: &mut [u32], waits: &[u16], start: Machine, count: u32) -> Run
         result.answer = Answer::Refused(refusal);
         return result;
     }
-    let mut waits = waits.iter();
+    // The list begins again at its end; an empty one has no waits (CR 3).
+    let mut waits = waits.iter().cycle();
     while result.ran < count {
         let Some(step) = step(memory, &mut result.machine) else {
             result.answer = Answer::Outside;

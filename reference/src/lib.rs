@@ -1,8 +1,9 @@
 //! An independent emulator of the FM8502 recorder card.
 //!
-//! "Document 01" is the paper that defines instructions, clocks and images;
-//! "report 48" is the FM8502 report it rests on. This library was written from
-//! those two alone, so that it can check another emulator.
+//! "Document 01" is the paper that defines instructions, clocks and images,
+//! "document 02" lists changes to it (CR 3 and so on), and "report 48" is the
+//! FM8502 report they rest on. This library was written from those alone, so that
+//! it can check another emulator.
 
 pub mod alu;
 pub mod file_run;

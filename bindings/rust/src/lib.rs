@@ -41,7 +41,9 @@ fn carried_out(code: u32) -> Result<bool, Refused> {
     }
 }
 
-/// Runs up to `count` instructions with the wait list.
+/// Runs up to `count` instructions with the wait list, from its beginning. Each access
+/// to memory takes the next entry and waits so many clocks; after the last entry the
+/// list begins again, and an empty list means no waits.
 pub fn run(
     memory: &mut [u32],
     waits: &[u16],
@@ -79,7 +81,8 @@ pub fn file_run(
     })
 }
 
-/// Does `clocks` clocks of the gate machine; returns the instructions finished.
+/// Does `clocks` clocks of the gate machine, with the wait list as for [`run`], but
+/// from the state's position; returns the instructions finished.
 pub fn gate_run(
     memory: &mut [u32],
     waits: &[u16],

@@ -59,7 +59,7 @@ pub struct GateState {
     pub a: u32,
     pub b: u32,
     pub result: u32,
-    /// Position in the wait list.
+    /// Position of the next entry of the wait list, below its length; 0 for an empty list.
     pub position: u32,
     /// Whether an access has begun, with its clocks left, the completing one included.
     pub begun: bool,

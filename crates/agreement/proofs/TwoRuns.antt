@@ -12,6 +12,7 @@ use Rattle.model.specs.Refusals.{_then_, memoryFits, waitsFit, runVerdict, gate
 use Rattle.model.specs.Agreement.{machineOf, gateFrom, interpreterFrom}
 use Rattle.model.proofs.Agreed.{agreement}
 use Rattle.model.proofs.Verdicts.{then-accepted, accepted}
+use Rattle.model.proofs.Waits.{first-fits}
 use Rattle.model.proofs.Valid.{resting, valid-verdict}
 use Rattle.interpreter.specs.Calls.{runResult}
 use Rattle.interpreter.proofs.Answers.{finished-as, outside-as, returned, left-in}
@@ -21,7 +22,7 @@ use Rattle.agreement.proofs.Series.{series-as-one}
 pub same-verdict : SameVerdict
 unfolding gateVerdict runVerdict
 same-verdict memory waits start h =
-    let v = valid-verdict start (resting start (rw (h .row) (omega arith)) (rw (h .position) (omega arith)) (h .begun) (h .left)) in
+    let v = valid-verdict waits start (resting waits start (rw (h .row) (omega arith)) (rw (h .position) (first-fits waits)) (h .begun) (h .left)) in
     ap (λ (w : Verdict). memoryFits memory then waitsFit waits then w) v ∙ ap (λ (w : Verdict). memoryFits memory then w) (then-accepted (waitsFit waits))
 
 -- the claim for a run i of the model

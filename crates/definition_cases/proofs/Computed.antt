@@ -6,13 +6,14 @@ use Rattle.arithmetic.specs.Alu.{sumOf, differenceOf, halvedOf, answers, aluAt,
 use Rattle.model.specs.Words.{field, bit}
 use Rattle.model.specs.Operands.{operandA, operandB}
 use Rattle.model.specs.Alu.{isMove, operation, alu, flagsAfter, stores}
-use Rattle.model.specs.Waits.{waitAt, nextPosition, waitSum, positionAfter}
+use Rattle.model.specs.Waits.{waitAt, nextPosition, positionFits, waitSum, positionAfter}
 use Rattle.model.specs.Interpreter.{execute, stop, advance, interpret}
 use Rattle.model.specs.Journal.{storedBy, journalPairs, journalWords}
 use Rattle.model.specs.GateMachine.{work, isAccess, remaining, positionNow, workOrWait, clock, gateRun}
 use Rattle.model.specs.Packed.{packedOf, flagsOf, latchWords}
-use Rattle.definition_cases.specs.Shape.{runFailures, gateFailures}
-use Rattle.definition_cases.specs.Cases.{runCases, gateCases}
+use Rattle.model.specs.Refusals.{gateVerdict}
+use Rattle.definition_cases.specs.Shape.{runFailures, gateFailures, verdictFailures}
+use Rattle.definition_cases.specs.Cases.{runCases, gateCases, verdictCases}
 
 pub runs : runFailures 0 runCases ≡ []
 unfolding field bit packedOf flagsOf operandA operandB signedOf leaves sumOf differenceOf halvedOf answers aluAt aluOf isMove operation alu flagsAfter stores waitAt nextPosition waitSum positionAfter execute stop advance interpret storedBy journalPairs journalWords
@@ -21,3 +22,7 @@ runs = refl
 pub gates : gateFailures 0 gateCases ≡ []
 unfolding field bit packedOf flagsOf latchWords operandA operandB signedOf leaves sumOf differenceOf halvedOf answers aluAt aluOf isMove operation alu flagsAfter stores waitAt nextPosition work isAccess remaining positionNow workOrWait clock gateRun
 gates = refl
+
+pub verdicts : verdictFailures 0 verdictCases ≡ []
+unfolding flagsOf isAccess positionFits gateVerdict
+verdicts = refl

@@ -1,5 +1,6 @@
 -- Generated cases of both engines: inputs, what the reference emulator gave, and whether the model's definitions give the same. A test of
--- the definitions of document 01, "Machine and instruction word", "Clocks" and "File run and journal".
+-- the definitions of document 01, "Machine and instruction word", "Clocks", "File run and journal" and "Why a call is turned down", and of
+-- document 02, CR 3.
 use Prim.Native.Nat.{ℕ, suc}
 use mathlib.Core.Bool.{Bool, true, false, cond, _&&_, Bool·beq}
 use mathlib.Core.List.{List, [], _∷_}
@@ -12,6 +13,7 @@ use Rattle.model.specs.Interpreter.{begin, interpret}
 use Rattle.model.specs.Journal.{journalPairs, journalWords}
 use Rattle.model.specs.GateMachine.{gateRun}
 use Rattle.model.specs.Packed.{packedOf, flagsOf, packedMachine, latchWords}
+use Rattle.model.specs.Refusals.{verdictNumber, gateVerdict}
 use Rattle.model.specs.Agreement.{gateFrom}
 
 abbrev pub same : List ℕ → List ℕ → Bool
@@ -73,6 +75,14 @@ gateHolds (gateCase memory waits regs latches clocks memory′ regs′ latches�
     && same (latchesOf (g .state)) latches′
     && eqb (g .finished) finished
 
+-- ---- whether a gate run takes a state: the refusal's number, 0 for none
+
+pub data VerdictCase : Type 0 where
+  verdictCase : (memory waits latches : List ℕ) (number : ℕ) → VerdictCase
+
+abbrev pub verdictHolds : VerdictCase → Bool
+verdictHolds (verdictCase memory waits latches number) = eqb (verdictNumber (gateVerdict memory waits (caseState [] latches))) number
+
 -- ---- the numbers of the cases that do not hold
 
 abbrev pub runFailures : ℕ → List RunCase → List ℕ
@@ -82,3 +92,7 @@ runFailures i (c ∷ cs) = cond (runHolds c) (runFailures (suc i) cs) (i ∷ run
 abbrev pub gateFailures : ℕ → List GateCase → List ℕ
 gateFailures i [] = []
 gateFailures i (c ∷ cs) = cond (gateHolds c) (gateFailures (suc i) cs) (i ∷ gateFailures (suc i) cs)
+
+abbrev pub verdictFailures : ℕ → List VerdictCase → List ℕ
+verdictFailures i [] = []
+verdictFailures i (c ∷ cs) = cond (verdictHolds c) (verdictFailures (suc i) cs) (i ∷ verdictFailures (suc i) cs)

@@ -1,18 +1,17 @@
--- The waits of several accesses, one access more at a time.
-use Prim.Native.Nat.{ℕ, _+_, _≤_, _<_}
+-- The waits of several accesses, one access more at a time, and of an empty list.
+use Prim.Native.Nat.{ℕ, _+_, _≤_}
 use mathlib.Core.Path.{_≡_, refl, sym, ap, _∙_}
 use mathlib.Core.Bool.{Bool, true, false, cond, _&&_}
 use mathlib.Core.List.{List}
 use native.Mathlib.Nat.{add-zero}
 use native.Mathlib.Omega.{arith}
 use lib.ListN.{length}
-use borrow.Author.Tests.{lt-ltb}
 use Rattle.arithmetic.specs.Words.{asNumber}
 use Rattle.model.specs.declared.Operand.{Operand}
 use Rattle.model.specs.Operands.{inMemory}
-use Rattle.model.specs.Waits.{waitAt, nextPosition, waitSum, positionAfter}
+use Rattle.model.specs.Waits.{positionFits, waitSum, positionAfter}
 use Rattle.model.specs.Interpreter.{costOf}
-use Rattle.model.proofs.Waits.{sum-add, position-add, no-wait, next-stays, no-waits, position-stays}
+use Rattle.model.proofs.Waits.{sum-add, position-add, fits-past, no-waits, position-stays}
 use Rattle.engine.specs.declared.clocks.Spent.{Spent}
 use Rattle.engine.specs.Clocks.{moreOf, walkedOf, spentOf}
 
@@ -20,17 +19,6 @@ spent-eq : {c d p q : ℕ} → c ≡ d → p ≡ q → _≡_ {A = Spent} (record
 spent-eq e f = rw (e, f)
 
 module _ (waits : List ℕ) where
-  -- ---- one access
-
-  pub waits-there : (w : Spent) {x : ℕ} → w .position < length waits → x ≡ waitAt waits (w .position)
-      → record { clocks = w .clocks + x; position = w .position + 1 } ≡ moreOf waits w
-  unfolding nextPosition
-  waits-there w h e = rw (e, lt-ltb (w .position) (length waits) h)
-
-  pub waits-past : (w : Spent) → length waits ≤ w .position → w ≡ moreOf waits w
-  waits-past w h =
-      spent-eq {p = w .position} (omega (arith, no-wait waits (w .position) h)) (sym (next-stays waits (w .position) h))
-
   -- ---- several
 
   walked-none : (c p : ℕ) → record { clocks = c; position = p } ≡ walkedOf waits c p 0
@@ -62,11 +50,13 @@ module _ (waits : List ℕ) where
       last
       ∙ rw (e, p, q)
 
-  -- ---- past the end
+  -- ---- an empty list
 
-  walked-past : (c p : ℕ) → length waits ≤ p → (n : ℕ) → record { clocks = c; position = p } ≡ walkedOf waits c p n
-  walked-past c p past n = spent-eq (omega (arith, no-waits waits p past n)) (sym (position-stays waits p past n))
+  walked-empty : length waits ≡ 0 → (c n : ℕ) → record { clocks = c; position = 0 } ≡ walkedOf waits c 0 n
+  walked-empty none c n = spent-eq (omega (arith, no-waits waits none 0 n)) (sym (position-stays waits none n))
 
-  pub clocked-past : (w : Spent) (oa ob : Operand) (stored : Bool) {a b : Bool} {x : ℕ} → a ≡ inMemory oa → b ≡ inMemory ob → x ≡ costOf a b stored
-      → length waits ≤ w .position → record { clocks = w .clocks + x; position = w .position } ≡ spentOf waits w oa ob stored
-  clocked-past w oa ob stored p q e past = rw (e, p, q) (walked-past _ (w .position) past _)
+  pub clocked-empty : (w : Spent) → length waits ≤ w .position → positionFits waits (w .position) ≡ true → (oa ob : Operand) (stored : Bool) {a b : Bool} {x : ℕ}
+      → a ≡ inMemory oa → b ≡ inMemory ob → x ≡ costOf a b stored → record { clocks = w .clocks + x; position = w .position } ≡ spentOf waits w oa ob stored
+  clocked-empty w past h oa ob stored p q e =
+      let first = fits-past waits (w .position) h past in
+      rw (e, p, q, first) (walked-empty (omega arith) _ _)

@@ -10,12 +10,13 @@ use lib.ListN.{length}
 use lib.Seq.{sets}
 use Rattle.model.specs.declared.Machine.{Machine}
 use Rattle.model.specs.declared.Ending.the-variants.{Finished, Outside}
-use Rattle.model.specs.Waits.{waitAt}
+use Rattle.model.specs.Waits.{waitAt, positionFits}
 use Rattle.model.specs.Interpreter as I
 use Rattle.model.specs.Journal.{Pair, storedBy, journalPairs, journalWords}
 use Rattle.model.specs.Packed.{packedOf, packedMachine}
 use Rattle.model.proofs.Packed.{unpacks}
 use Rattle.model.proofs.Runs.{runAt, outside-stays, outside-pairs, pairs-le, noted-length, noted-words}
+use Rattle.model.proofs.Waits.{first-fits, after-fits}
 use Rattle.model.proofs.Bounds.{clocks-le}
 use Rattle.step.specs.declared.Stepped.{Stepped}
 use Rattle.step.specs.Steps.{journaled, Steps}
@@ -56,6 +57,7 @@ module _ (memory₀ waits journal₀ : List ℕ) (start : Machine) (count : ℕ)
     pub state : I.interpret waits i first ≡ runAt (packedMachine regs flags) memory position i clocks
     pub counted : pairs ≡ length (pairsAt i)
     pub journaled : journal ≡ sets journal₀ 0 (journalWords (pairsAt i))
+    pub fits : positionFits waits position ≡ true
     pub below : i ≤ count
     pub words : length memory ≡ length memory₀
     pub places : length journal ≡ length journal₀
@@ -103,6 +105,7 @@ module _ {memory₀ waits journal₀ : List ℕ} {start : Machine} {count : ℕ}
             journaled =
                 next-places h e ∙ noted-words (pairsTo i) p pairs (a .counted) journal journal₀ (a .journaled) stored
                 ∙ ap (λ (l : List Pair). sets journal₀ 0 (journalWords l)) (sym q);
+            fits = rw f (after-fits waits _ position (a .fits));
             below = omega arith;
             words = lm ∙ a .words;
             places = lj ∙ a .places;
@@ -139,11 +142,12 @@ module _ {memory₀ waits journal₀ : List ℕ} {start : Machine} {count : ℕ}
 pub begins : {memory waits journal regs : List ℕ} {flags count : ℕ}
     → At memory waits journal (packedMachine regs flags) count memory journal regs flags 0 0 0 0
 unfolding I.interpret journalPairs journalWords
-begins =
+begins {waits = waits} =
     record {
       state = refl;
       counted = refl;
       journaled = refl;
+      fits = first-fits waits;
       below = omega arith;
       words = refl;
       places = refl;

@@ -1,9 +1,12 @@
 // The clocks of an instruction, with the waits of its accesses.
 use model::Operand;
 use operands::in_memory;
+use wait_list::next_position;
 ghost use mathlib.Core.Path.{_≡_};
-ghost use mathlib.Core.Bool.{cond};
+ghost use mathlib.Core.Bool.{true, cond};
 ghost use Prim.Native.Nat.{_+_, _^_, _≤_, _<_};
+ghost use lib.ListN.{length};
+ghost use Rattle.model.specs.Waits.{positionFits};
 ghost use Rattle.model.specs.Interpreter.{costOf};
 ghost use Rattle.engine.specs.Clocks.{moreOf, spentOf};
 
@@ -20,24 +23,21 @@ fn cost(a: bool, b: bool, stored: bool) -> u64
     8 + (a as u64) + (b as u64) + (stored as u64)
 }
 
-// The wait of one access more.
+// The wait of one access more, at an entry of the list.
 fn more(waits: &[u16], w: Spent) -> Spent
-    requires { ⌜ w .clocks < 2 ^ 62 ⌝ }
-    ensures { λ r. ⌜ (r ≡ moreOf (now (waits .entry)) w) × (r .clocks < w .clocks + 65_536) ⌝ }
+    requires { ⌜ (w .clocks < 2 ^ 62) × (w .position < length (now waits)) ⌝ }
+    ensures { λ r. ⌜ (r ≡ moreOf (now (waits .entry)) w) × (r .clocks < w .clocks + 65_536) × (r .position < length (now (waits .entry))) ⌝ }
 {
     let position = w.position;
-    if position < waits.len() {
-        return Spent {
-            clocks: w.clocks + (waits[position] as u64),
-            position: position + 1,
-        };
+    Spent {
+        clocks: w.clocks + (waits[position] as u64),
+        position: next_position(waits, position),
     }
-    w
 }
 
 fn more_if(waits: &[u16], w: Spent, b: bool) -> Spent
-    requires { ⌜ w .clocks < 2 ^ 62 ⌝ }
-    ensures { λ r. ⌜ (r ≡ cond b (moreOf (now (waits .entry)) w) w) × (r .clocks < w .clocks + 65_536) ⌝ }
+    requires { ⌜ (w .clocks < 2 ^ 62) × (w .position < length (now waits)) ⌝ }
+    ensures { λ r. ⌜ (r ≡ cond b (moreOf (now (waits .entry)) w) w) × (r .clocks < w .clocks + 65_536) × (r .position < length (now (waits .entry))) ⌝ }
 {
     if b {
         return more(waits, w);
@@ -47,7 +47,7 @@ fn more_if(waits: &[u16], w: Spent, b: bool) -> Spent
 
 // One instruction more: its cost, and the waits for its fetch, A, B and store to memory.
 pub fn clocked(waits: &[u16], w: Spent, oa: Operand, ob: Operand, stored: bool) -> Spent
-    requires { ⌜ w .clocks < 2 ^ 61 ⌝ }
+    requires { ⌜ (w .clocks < 2 ^ 61) × (positionFits (now waits) (w .position) ≡ true) ⌝ }
     ensures { λ r. ⌜ r ≡ spentOf (now (waits .entry)) w oa ob stored ⌝ }
 {
     let mem_a = in_memory(oa);
@@ -55,7 +55,7 @@ pub fn clocked(waits: &[u16], w: Spent, oa: Operand, ob: Operand, stored: bool) 
     let position = w.position;
     let clocks = w.clocks + cost(mem_a, mem_b, stored);
     let before = Spent { clocks, position };
-    // Past the list no access waits: one test for all four is quicker.
+    // No entry there: the list is empty, and no access waits. One test for all four is quicker.
     if waits.len() <= position {
         return before;
     }

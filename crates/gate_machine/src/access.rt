@@ -1,11 +1,12 @@
 // The access protocol: an access takes its wait on its first clock, counts it down, and does the row's work on the last.
 use gate_rows::Latches;
+use wait_list::next_position;
+use wait_list::wait_at;
 ghost use mathlib.Core.Path.{_≡_};
 ghost use mathlib.Core.List.{[]};
 ghost use Prim.Native.Nat.{_-_, _≤_};
 ghost use lib.Dec.{ltb};
 ghost use lib.ListN.{length};
-ghost use Rattle.model.specs.Waits.{waitAt, nextPosition};
 ghost use Rattle.model.specs.Refusals.{mostWaits};
 ghost use Rattle.gate_rows.specs.Work.{stateOf};
 ghost use Rattle.gate_machine.specs.Clock.{acknowledgedAt, untouchedAt, grantOf};
@@ -18,24 +19,6 @@ pub struct Grant {
     pub position: u32,
     pub begun: bool,
     pub left: u16,
-}
-
-fn wait_at(waits: &[u16], position: u32) -> u16
-    ensures { λ r. ⌜ r ≡ waitAt (now (waits .entry)) position ⌝ }
-{
-    let i = position as usize;
-    if i < waits.len() { waits[i] } else { 0 }
-}
-
-fn next_position(waits: &[u16], position: u32) -> u32
-    requires { ⌜ length (now waits) ≤ mostWaits ⌝ }
-    ensures { λ r. ⌜ r ≡ nextPosition (now (waits .entry)) position ⌝ }
-{
-    if (position as usize) < waits.len() {
-        position + 1
-    } else {
-        position
-    }
 }
 
 fn one_less(left: u16) -> u16
@@ -84,5 +67,9 @@ pub fn granted(s: Latches, access: bool, words: usize, waits: &[u16]) -> Grant
     if s.begun {
         return acknowledged(one_less(s.left), s.position);
     }
-    acknowledged(wait_at(waits, s.position), next_position(waits, s.position))
+    let position = s.position as usize;
+    acknowledged(
+        wait_at(waits, position),
+        next_position(waits, position) as u32,
+    )
 }

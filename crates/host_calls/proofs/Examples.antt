@@ -9,7 +9,7 @@ use Rattle.arithmetic.specs.Alu.{sumOf, answers, aluAt, aluOf}
 use Rattle.model.specs.Words.{field, bit}
 use Rattle.model.specs.Operands.{operandA, operandB}
 use Rattle.model.specs.Alu.{isMove, operation, alu, flagsAfter, stores}
-use Rattle.model.specs.Waits.{waitAt, nextPosition, waitSum, positionAfter}
+use Rattle.model.specs.Waits.{waitAt, nextPosition, positionFits, waitSum, positionAfter}
 use Rattle.model.specs.Interpreter.{execute, stop, advance, interpret}
 use Rattle.model.specs.Journal.{storedBy, journalPairs, journalWords}
 use Rattle.model.specs.GateMachine.{work, isAccess, remaining, positionNow, workOrWait, clock, gateRun}
@@ -33,9 +33,10 @@ machine r0 r1 r2 = r0 ∷ r1 ∷ r2 ∷ replicate 9 0
 abbrev used : ℕ → List ℕ
 used n = replicate n 9
 
--- two instructions: the first has two accesses, with waits of 2 and 3, and takes 15 clocks and not 10; the second takes 9
+-- two instructions: the first has two accesses, with waits of 2 and 3, and takes 15 clocks and not 10; the second has one, for which the
+-- list begins again with 2, and takes 11 and not 9
 run : RunCall (0x58 ∷ 0x2A ∷ 0 ∷ 0 ∷ []) (2 ∷ 3 ∷ []) (machine 0 0 0) 2 (used 2)
-    (0x58 ∷ 0x2A ∷ 0 ∷ 0 ∷ []) (machine 3 0 0x2A) (2 ∷ 24 ∷ []) 0
+    (0x58 ∷ 0x2A ∷ 0 ∷ 0 ∷ []) (machine 3 0 0x2A) (2 ∷ 26 ∷ []) 0
 unfolding field bit operandA operandB answers aluAt aluOf isMove operation alu flagsAfter stores waitAt nextPosition waitSum positionAfter execute advance interpret runVerdict runReturned runWords machineIn lentFormed machineWords
 run = record { returned = refl; words = refl; parts = refl; numbers = refl }
 
@@ -66,7 +67,7 @@ file-run-undone = record { returned = refl; words = refl; places = refl; parts =
 -- nine clocks finish one instruction: r1 is 0, CVNZ 1001, and the latches have its word and its operands
 gate-run : GateCall (0x0001_3C21 ∷ []) [] (0 ∷ 0xFFFF_FFFF ∷ replicate 19 0) 9 (used 1)
     (0x0001_3C21 ∷ []) (1 ∷ replicate 7 0 ++ 1 ∷ 0 ∷ 0 ∷ 1 ∷ 0 ∷ 0x0001_3C21 ∷ 0 ∷ 0xFFFF_FFFF ∷ 0xFFFF_FFFF ∷ 0 ∷ 0 ∷ 0 ∷ 0 ∷ []) (1 ∷ []) 0
-unfolding signedOf leaves sumOf field bit operandA operandB answers aluAt aluOf isMove operation alu flagsAfter stores waitAt nextPosition work isAccess remaining positionNow workOrWait clock gateRun latchWords gateVerdict gateReturned gateWords machineIn stateIn lentFormed machineWords
+unfolding signedOf leaves sumOf field bit operandA operandB answers aluAt aluOf isMove operation alu flagsAfter stores waitAt nextPosition positionFits work isAccess remaining positionNow workOrWait clock gateRun latchWords gateVerdict gateReturned gateWords machineIn stateIn lentFormed machineWords
 gate-run = record { returned = refl; words = refl; parts = refl; numbers = refl }
 
 -- ---- the image of one word

@@ -1,5 +1,5 @@
 -- A run of the interpreter told one instruction at a time: where it stands, one instruction more, and its text.
-use Prim.Native.Nat.{ℕ, suc, _+_, _-_, _≤_, _<_, zero-le}
+use Prim.Native.Nat.{ℕ, suc, _+_, _-_, _≤_, _<_}
 use mathlib.Core.Path.{_≡_, refl, sym, ap, ap₂, _∙_}
 use mathlib.Core.List.{List, [], _++_, append-nil}
 use native.Mathlib.Nat.{zero-add}
@@ -30,7 +30,7 @@ module _ (m : Machine) (memory : List ℕ) (ran clocks : ℕ) where
   unfolding interpret advance execute stop
   goes =
       one-more [] (λ (o : Run). (o .ran ≡ 0 → ⊥) → advance [] here ≡ runAt (o .machine) (o .memory) 0 (ran + 1) (clocks + o .clocks)) alone
-      (λ _ t _. rw (t, position-stays [] 0 zero-le, zero-add))
+      (λ _ t _. rw (t, position-stays [] refl, zero-add))
       (λ _ _ ne. absurd (ne refl))
       (λ e _. cc)
 

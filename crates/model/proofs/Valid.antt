@@ -1,44 +1,46 @@
 -- A clock keeps what a gate run asks of its state and memory, so that the next run of a series is not turned down.
-use Prim.Native.Nat.{ℕ, zero, suc, _+_, _≤_, _<_}
+use Prim.Native.Nat.{ℕ, zero, suc, _≤_, _<_}
 use mathlib.Core.Path.{_≡_, refl, ap, _∙_}
 use mathlib.Core.Bool.{Bool, true, false, cond, _&&_, and-eq-true-iff}
 use mathlib.Core.List.{List}
 use native.Mathlib.Omega.{arith}
 use lib.Dec.{eqb, ltb, leb}
 use lib.ListN.{length, getD, length-set}
-use borrow.Author.Tests.{ltb-true, lt-ltb, le-leb, leb-true, eqb-true}
+use borrow.Author.Tests.{lt-ltb, le-leb, leb-true, eqb-true}
 use Rattle.model.specs.declared.GateState.{GateState}
 use Rattle.model.specs.declared.Refusal.the-variants.{LongWaitList, BadGateState}
 use Rattle.model.specs.declared.Verdict.the-variants.{Accepted}
 use Rattle.model.specs.Operands.{operandA, operandB, inMemory}
 use Rattle.model.specs.Alu.{stores}
-use Rattle.model.specs.Waits.{nextPosition}
+use Rattle.model.specs.Waits.{positionFits}
 use Rattle.model.specs.GateMachine.{Gate, gate, withAccess, onState, addressPc, readInstruction, stepPc, prepareA, readA, prepareB, readB, compute, writeRegister, writeMemory, stepUpA, stepUpB, rows, work, isAccess, positionNow, clock, gateRun}
 use Rattle.model.specs.Refusals.{mostWaits, _then_, memoryFits, waitsFit, accessFormed, stateFits, gateVerdict}
 use Rattle.model.specs.Agreement.{gateFrom}
 use Rattle.model.proofs.Cases.{pick, Each, past, _▸_}
+use Rattle.model.proofs.Waits.{next-fits}
 use Rattle.model.proofs.Clocks.{accessOver, one-clock}
 use Rattle.model.proofs.Verdicts.{demanded, both}
 
 -- ---- what a run asks of a state
 
-pub record Valid (s : GateState) : Type 0 where
+pub record Valid (waits : List ℕ) (s : GateState) : Type 0 where
   pub row : s .row < 12
-  pub position : s .position ≤ mostWaits
+  pub position : positionFits waits (s .position) ≡ true
   pub access : accessFormed s ≡ true
 
-pub valid-verdict : (s : GateState) → Valid s → stateFits s ≡ Accepted
-valid-verdict s v = rw (le-leb (s .row) 11 (omega (arith, v .row)), le-leb (s .position) mostWaits (v .position), v .access)
+module _ (waits : List ℕ) (s : GateState) where
+  pub valid-verdict : Valid waits s → stateFits waits s ≡ Accepted
+  valid-verdict v = rw (le-leb (s .row) 11 (omega (arith, v .row)), v .position, v .access)
 
-verdict-valid : (s : GateState) → stateFits s ≡ Accepted → Valid s
-verdict-valid s e =
-    let (rp, a) = and-eq-true-iff (leb (s .row) 11 && leb (s .position) mostWaits) (accessFormed s) .0 (demanded _ BadGateState e) in
-    let (r, p) = and-eq-true-iff (leb (s .row) 11) (leb (s .position) mostWaits) .0 rp in
-    record { row = omega (arith, leb-true (s .row) 11 r); position = leb-true (s .position) mostWaits p; access = a }
+  verdict-valid : stateFits waits s ≡ Accepted → Valid waits s
+  verdict-valid e =
+      let (rp, a) = and-eq-true-iff (leb (s .row) 11 && positionFits waits (s .position)) (accessFormed s) .0 (demanded _ BadGateState e) in
+      let (r, p) = and-eq-true-iff (leb (s .row) 11) (positionFits waits (s .position)) .0 rp in
+      record { row = omega (arith, leb-true (s .row) 11 r); position = p; access = a }
 
--- with no access begun
-pub resting : (s : GateState) → s .row < 12 → s .position ≤ mostWaits → s .begun ≡ false → s .left ≡ 0 → Valid s
-resting s r p b l = record { row = r; position = p; access = rw (b, l) }
+  -- with no access begun
+  pub resting : s .row < 12 → positionFits waits (s .position) ≡ true → s .begun ≡ false → s .left ≡ 0 → Valid waits s
+  resting r p b l = record { row = r; position = p; access = rw (b, l) }
 
 -- a row that is no access has none begun
 none-begun : (s : GateState) → isAccess (s .row) ≡ false → accessFormed s ≡ true → (s .begun ≡ false) × (s .left ≡ 0)
@@ -101,42 +103,38 @@ work-keeps g l = rows-keep .at (g .state .row) g l
 
 -- ---- one clock, and a run
 
-record Fine (words : ℕ) (g : Gate) : Type 0 where
-  valid : Valid (g .state)
+record Fine (waits : List ℕ) (words : ℕ) (g : Gate) : Type 0 where
+  valid : Valid waits (g .state)
   length : lib.ListN.length (g .memory) ≡ words
 
-module _ (waits : List ℕ) (short : length waits ≤ mostWaits) where
-  next-low : (p : ℕ) → p ≤ mostWaits → (b : Bool) → ltb p (length waits) ≡ b → cond b (p + 1) p ≤ mostWaits
-  next-low p h true e = omega (arith, ltb-true p (length waits) e)
-  next-low p h false e = h
-
-  position-low : (s : GateState) → s .position ≤ mostWaits → positionNow waits s ≤ mostWaits
-  unfolding positionNow nextPosition
-  position-low s h = pick (λ (p : ℕ). p ≤ mostWaits) (s .begun) h (next-low (s .position) h (ltb (s .position) (length waits)) refl)
+module _ (waits : List ℕ) where
+  position-fits : (s : GateState) → positionFits waits (s .position) ≡ true → positionFits waits (positionNow waits s) ≡ true
+  unfolding positionNow
+  position-fits s h = pick (λ (p : ℕ). positionFits waits p ≡ true) (s .begun) h (next-fits waits (s .position) h)
 
   -- the work of a row that has no access begun
-  works : (words : ℕ) (g : Gate) → g .state .row < 12 → g .state .position ≤ mostWaits → g .state .begun ≡ false → g .state .left ≡ 0 → length (g .memory) ≡ words → Fine words (work g)
+  works : (words : ℕ) (g : Gate) → g .state .row < 12 → positionFits waits (g .state .position) ≡ true → g .state .begun ≡ false → g .state .left ≡ 0 → length (g .memory) ≡ words → Fine waits words (work g)
   unfolding Keeps
   works words g r p b l w =
       let k = work-keeps g r in
       record {
-        valid = resting (work g .state) (k .row) (rw (ap (λ (s : GateState). s .position) (k .access)) p) (ap (λ (s : GateState). s .begun) (k .access) ∙ b) (ap (λ (s : GateState). s .left) (k .access) ∙ l);
+        valid = resting waits (work g .state) (k .row) (rw (ap (λ (s : GateState). s .position) (k .access)) p) (ap (λ (s : GateState). s .begun) (k .access) ∙ b) (ap (λ (s : GateState). s .left) (k .access) ∙ l);
         length = k .words ∙ w;
       }
 
-  clock-fine : (words : ℕ) (g : Gate) → Fine words g → Fine words (clock waits g)
+  clock-fine : (words : ℕ) (g : Gate) → Fine waits words g → Fine waits words (clock waits g)
   unfolding clock
   clock-fine words g h =
-      let low = position-low (g .state) (h .valid .position) in
-      one-clock waits g (λ (c : Gate → Gate). Fine words (c g))
-      (λ _ _ _. works words (accessOver waits g g) (h .valid .row) low refl refl (h .length))
-      (λ access _ w _. record { valid = record { row = h .valid .row; position = low; access = rw (access, lt-ltb 0 (suc w) (omega arith)) }; length = h .length })
+      let fits = position-fits (g .state) (h .valid .position) in
+      one-clock waits g (λ (c : Gate → Gate). Fine waits words (c g))
+      (λ _ _ _. works words (accessOver waits g g) (h .valid .row) fits refl refl (h .length))
+      (λ access _ w _. record { valid = record { row = h .valid .row; position = fits; access = rw (access, lt-ltb 0 (suc w) (omega arith)) }; length = h .length })
       (λ _ _. h)
       (λ plain.
       let n = none-begun (g .state) plain (h .valid .access) in
       works words g (h .valid .row) (h .valid .position) (n .0) (n .1) (h .length))
 
-  run-fine : (words k : ℕ) (g : Gate) → Fine words g → Fine words (gateRun waits k g)
+  run-fine : (words k : ℕ) (g : Gate) → Fine waits words g → Fine waits words (gateRun waits k g)
   unfolding gateRun
   run-fine words zero g h = h
   run-fine words (suc k) g h = clock-fine words (gateRun waits k g) (run-fine words k g h)
@@ -147,30 +145,30 @@ module _ (waits : List ℕ) (short : length waits ≤ mostWaits) where
 record Passed (memory waits : List ℕ) (start : GateState) : Type 0 where
   words : memoryFits memory ≡ Accepted
   list : waitsFit waits ≡ Accepted
-  state : stateFits start ≡ Accepted
+  state : stateFits waits start ≡ Accepted
 
 module _ (memory waits : List ℕ) (start : GateState) (e : gateVerdict memory waits start ≡ Accepted) where
   passed : Passed memory waits start
   unfolding gateVerdict
   passed =
-      let (m, ws) = both (memoryFits memory) (waitsFit waits then stateFits start) e in
-      let (w, s) = both (waitsFit waits) (stateFits start) ws in
+      let (m, ws) = both (memoryFits memory) (waitsFit waits then stateFits waits start) e in
+      let (w, s) = both (waitsFit waits) (stateFits waits start) ws in
       record { words = m; list = w; state = s }
 
   pub short : length waits ≤ mostWaits
   short = leb-true (length waits) mostWaits (demanded _ LongWaitList (passed .list))
 
   -- every state that the run comes to is one that a run takes
-  comes-fine : (i : ℕ) → Fine (length memory) (gateRun waits i (gateFrom start memory))
-  comes-fine i = run-fine waits short (length memory) i (gateFrom start memory) (record { valid = verdict-valid start (passed .state); length = refl })
+  comes-fine : (i : ℕ) → Fine waits (length memory) (gateRun waits i (gateFrom start memory))
+  comes-fine i = run-fine waits (length memory) i (gateFrom start memory) (record { valid = verdict-valid waits start (passed .state); length = refl })
 
   pub row-there : (i : ℕ) {s : GateState} {m : List ℕ} {f : ℕ} → gate s m f ≡ gateRun waits i (gateFrom start memory) → s .row < 12
   row-there i q = rw (ap (λ (g : Gate). g .state .row) q) (comes-fine i .valid .row)
 
   -- the verdict looks at the memory's length and at the state's validity
-  still-accepted : (g : Gate) → Fine (length memory) g → gateVerdict (g .memory) waits (g .state) ≡ Accepted
+  still-accepted : (g : Gate) → Fine waits (length memory) g → gateVerdict (g .memory) waits (g .state) ≡ Accepted
   unfolding gateVerdict
-  still-accepted g f = rw (f .length, passed .words, passed .list) (valid-verdict (g .state) (f .valid))
+  still-accepted g f = rw (f .length, passed .words, passed .list) (valid-verdict waits (g .state) (f .valid))
 
   -- the state and the memory that a run leaves are taken by the next
   pub next-accepted : (i : ℕ) {s : GateState} {m : List ℕ} {f : ℕ} → gate s m f ≡ gateRun waits i (gateFrom start memory) → gateVerdict m waits s ≡ Accepted

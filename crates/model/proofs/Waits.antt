@@ -1,12 +1,16 @@
--- The waits of accesses one after the other, and past the end of the wait list.
-use Prim.Native.Nat.{ℕ, zero, suc, _+_, _≤_}
-use mathlib.Core.Path.{_≡_, refl}
+-- The waits of accesses one after the other, where the list begins again, and an empty list.
+use Prim.Native.Nat.{ℕ, zero, suc, _+_, _*_, _≤_, _<_}
+use mathlib.Core.Path.{_≡_, refl, sym, ap, _∙_}
+use mathlib.Core.Bool.{Bool, true, false, cond, _||_}
 use mathlib.Core.List.{List}
-use native.Mathlib.Nat.{zero-add, suc-add}
+use native.Mathlib.Nat.{zero-add, suc-add, zero-mul, suc-mul}
+use native.Mathlib.Numerals.{add-one}
 use native.Mathlib.Omega.{arith}
+use lib.Dec.{eqb, ltb}
 use lib.ListN.{length, List·getD-eq-default}
-use borrow.Author.Tests.{le-ltb}
-use Rattle.model.specs.Waits.{waitAt, nextPosition, waitSum, positionAfter}
+use borrow.Author.Tests.{ltb-true, ltb-false, lt-ltb, le-ltb, eqb-true}
+use Rattle.model.specs.Waits.{waitAt, nextPosition, positionFits, waitSum, positionAfter}
+use Rattle.model.specs.Waiting.{ComesRound}
 
 module _ (waits : List ℕ) where
   pub sum-add : (i j p : ℕ) → waitSum waits p (i + j) ≡ waitSum waits p i + waitSum waits (positionAfter waits p i) j
@@ -19,22 +23,104 @@ module _ (waits : List ℕ) where
   position-add zero j p = rw zero-add
   position-add (suc i) j p = rw suc-add (position-add i j (nextPosition waits p))
 
-  -- past the end a wait is 0 and the position stays
-  module _ (p : ℕ) (past : length waits ≤ p) where
-    pub no-wait : waitAt waits p ≡ 0
-    unfolding waitAt
-    no-wait = List·getD-eq-default waits 0 {n = p} past
+  -- ---- one access
 
-    pub next-stays : nextPosition waits p ≡ p
-    unfolding nextPosition
-    next-stays = rw (le-ltb p (length waits) past)
+  -- past the list's end there is no entry
+  pub no-wait : (p : ℕ) → length waits ≤ p → waitAt waits p ≡ 0
+  unfolding waitAt
+  no-wait p h = List·getD-eq-default waits 0 {n = p} h
 
-    pub no-waits : (n : ℕ) → waitSum waits p n ≡ 0
+  -- one further, or the list begins again
+  pub next-further : (p : ℕ) → p + 1 < length waits → nextPosition waits p ≡ p + 1
+  unfolding nextPosition
+  next-further p h = rw (lt-ltb (p + 1) (length waits) h)
+
+  pub next-again : (p : ℕ) → length waits ≤ p + 1 → nextPosition waits p ≡ 0
+  unfolding nextPosition
+  next-again p h = rw (le-ltb (p + 1) (length waits) h)
+
+  -- either way, for any fact about it
+  pub next-either : (P : ℕ → Type 0) (p : ℕ) → (p + 1 < length waits → P (p + 1)) → (length waits ≤ p + 1 → P 0) → P (nextPosition waits p)
+  unfolding nextPosition
+  next-either P p further again = go (ltb (p + 1) (length waits)) refl
+    where
+      go : (t : Bool) → ltb (p + 1) (length waits) ≡ t → P (cond t (p + 1) 0)
+      go true e = further (ltb-true (p + 1) (length waits) e)
+      go false e = again (ltb-false (p + 1) (length waits) e)
+
+  pub next-low : (p most : ℕ) → length waits ≤ most → nextPosition waits p ≤ most
+  next-low p most h = next-either (λ (q : ℕ). q ≤ most) p (λ less. omega arith) (λ _. omega arith)
+
+  -- in a list with entries the next position has one
+  pub next-below : (p : ℕ) → p < length waits → nextPosition waits p < length waits
+  next-below p h = next-either (λ (q : ℕ). q < length waits) p (λ less. less) (λ _. omega arith)
+
+  -- ---- positions that fit: the first, and with each the next
+
+  pub first-fits : positionFits waits 0 ≡ true
+  unfolding positionFits
+  first-fits = refl
+
+  below-fits : (p : ℕ) → p < length waits → positionFits waits p ≡ true
+  unfolding positionFits
+  below-fits p h = go (eqb p 0)
+    where
+      go : (t : Bool) → (t || ltb p (length waits)) ≡ true
+      go true = refl
+      go false = lt-ltb p (length waits) h
+
+  -- a position that fits and has no entry is 0
+  pub fits-past : (p : ℕ) → positionFits waits p ≡ true → length waits ≤ p → p ≡ 0
+  unfolding positionFits
+  fits-past p h past = go (eqb p 0) refl h
+    where
+      go : (t : Bool) → eqb p 0 ≡ t → (t || ltb p (length waits)) ≡ true → p ≡ 0
+      go true e _ = eqb-true p 0 e
+      go false _ e = omega (arith, ltb-true p (length waits) e)
+
+  pub next-fits : (p : ℕ) → positionFits waits p ≡ true → positionFits waits (nextPosition waits p) ≡ true
+  next-fits p _ = next-either (λ (q : ℕ). positionFits waits q ≡ true) p (below-fits (p + 1)) (λ _. first-fits)
+
+  pub after-fits : (n p : ℕ) → positionFits waits p ≡ true → positionFits waits (positionAfter waits p n) ≡ true
+  unfolding positionAfter
+  after-fits zero p h = h
+  after-fits (suc n) p h = after-fits n (nextPosition waits p) (next-fits p h)
+
+  -- ---- an empty list: no waits, and position 0 stays
+
+  module _ (none : length waits ≡ 0) where
+    pub no-waits : (p n : ℕ) → waitSum waits p n ≡ 0
     unfolding waitSum
-    no-waits zero = refl
-    no-waits (suc n) = rw next-stays (omega (arith, no-wait, no-waits n))
+    no-waits p zero = refl
+    no-waits p (suc n) = omega (arith, no-wait p (omega arith), no-waits (nextPosition waits p) n)
 
-    pub position-stays : (n : ℕ) → positionAfter waits p n ≡ p
+    pub position-stays : (n : ℕ) → positionAfter waits 0 n ≡ 0
     unfolding positionAfter
     position-stays zero = refl
-    position-stays (suc n) = rw next-stays (position-stays n)
+    position-stays (suc n) = rw (next-again 0 (omega arith)) (position-stays n)
+
+  -- ---- whole rounds
+
+  one-more : (n : ℕ) → positionAfter waits 0 (suc n) ≡ nextPosition waits (positionAfter waits 0 n)
+  unfolding positionAfter
+  one-more n = ap (positionAfter waits 0) (sym (add-one n)) ∙ position-add n 1 0
+
+  within : (i : ℕ) → i < length waits → positionAfter waits 0 i ≡ i
+  unfolding positionAfter
+  within zero h = refl
+  within (suc i) h = one-more i ∙ ap (nextPosition waits) (within i (omega arith)) ∙ next-further i (omega arith) ∙ add-one i
+
+  round : (n : ℕ) → length waits ≡ n → positionAfter waits 0 n ≡ 0
+  unfolding positionAfter
+  round zero e = refl
+  round (suc n) e = one-more n ∙ ap (nextPosition waits) (within n (omega arith)) ∙ next-again n (omega arith)
+
+  rounds : (k i : ℕ) → positionAfter waits 0 (k * length waits + i) ≡ positionAfter waits 0 i
+  rounds zero i = rw (zero-mul, zero-add) refl
+  rounds (suc k) i =
+      let L = length waits in
+      let e : suc k * L + i ≡ L + (k * L + i) = rw (suc-mul k L) (omega arith) in
+      ap (positionAfter waits 0) e ∙ position-add L (k * L + i) 0 ∙ ap (λ (p : ℕ). positionAfter waits p (k * L + i)) (round L refl) ∙ rounds k i
+
+pub comes-round : ComesRound
+comes-round waits k i h = rounds waits k i ∙ within waits i h

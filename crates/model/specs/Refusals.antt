@@ -10,6 +10,7 @@ use Rattle.model.specs.declared.Refusal.{Refusal}
 use Rattle.model.specs.declared.Refusal.the-variants.{NoWords, TooManyWords, LongWaitList, BadGateState, TooManyInstructions, ShortJournal, ShortOutput, CutImage, WrongTag, WrongLength, WrongVersion, BadFlag, BadWordCount, ShortMemory, TrailingBytes}
 use Rattle.model.specs.declared.Verdict.{Verdict}
 use Rattle.model.specs.declared.Verdict.the-variants.{Accepted, Refused}
+use Rattle.model.specs.Waits.{positionFits}
 use Rattle.model.specs.GateMachine.{isAccess}
 
 abbrev pub refusalNumber : Refusal → ℕ
@@ -66,12 +67,13 @@ memoryFits memory = demand (ltb 0 (length memory)) NoWords then demand (leb (len
 abbrev pub waitsFit : List ℕ → Verdict
 waitsFit waits = demand (leb (length waits) mostWaits) LongWaitList
 
--- 4: a row above 11, a position above 65,536, an access begun outside rows 1, 4, 6, 9 or with no clocks left, clocks left with none begun
+-- 4: a row above 11, a position that does not fit the list (CR 3), an access begun outside rows 1, 4, 6, 9 or with no clocks left, clocks
+-- left with none begun
 abbrev pub accessFormed : GateState → Bool
 accessFormed s = cond (s .begun) (isAccess (s .row) && ltb 0 (s .left)) (eqb (s .left) 0)
 
-abbrev pub stateFits : GateState → Verdict
-stateFits s = demand (leb (s .row) 11 && leb (s .position) mostWaits && accessFormed s) BadGateState
+abbrev pub stateFits : (waits : List ℕ) → GateState → Verdict
+stateFits waits s = demand (leb (s .row) 11 && positionFits waits (s .position) && accessFormed s) BadGateState
 
 -- 5 and 6, of a file run of n instructions
 abbrev pub journalFits : List ℕ → ℕ → Verdict
@@ -87,4 +89,4 @@ unfoldable pub fileVerdict : (memory journal : List ℕ) → ℕ → Verdict
 fileVerdict memory journal n = memoryFits memory then journalFits journal n
 
 unfoldable pub gateVerdict : (memory waits : List ℕ) → GateState → Verdict
-gateVerdict memory waits s = memoryFits memory then waitsFit waits then stateFits s
+gateVerdict memory waits s = memoryFits memory then waitsFit waits then stateFits waits s

@@ -9,6 +9,7 @@ use refusals::demand;
 use refusals::memory_fits;
 use refusals::then;
 use step_table::LAST_ROW;
+use wait_list::position_fits;
 ghost use mathlib.Core.Path.{_≡_};
 ghost use Rattle.model.specs.Refusals.{waitsFit, stateFits, journalFits, runVerdict, fileVerdict, gateVerdict};
 
@@ -25,11 +26,11 @@ fn waits_fit(waits: &[u16]) -> Verdict
 }
 
 // Reason 4.
-fn state_fits(s: GateState) -> Verdict
-    ensures { λ r. ⌜ r ≡ stateFits s ⌝ }
+fn state_fits(waits: &[u16], s: GateState) -> Verdict
+    ensures { λ r. ⌜ r ≡ stateFits (now (waits .entry)) s ⌝ }
 {
     demand(
-        (s.row <= LAST_ROW) & (s.position as usize <= MOST_WAITS) & access_formed(s),
+        (s.row <= LAST_ROW) & position_fits(waits, s.position as usize) & access_formed(s),
         Refusal::BadGateState,
     )
 }
@@ -60,5 +61,8 @@ pub fn file_verdict(memory: &[u32], journal: &[u32], count: u32) -> Verdict
 pub fn gate_verdict(memory: &[u32], waits: &[u16], s: GateState) -> Verdict
     ensures { λ r. ⌜ r ≡ gateVerdict (now (memory .entry)) (now (waits .entry)) s ⌝ }
 {
-    then(memory_fits(memory), then(waits_fit(waits), state_fits(s)))
+    let words = memory_fits(memory);
+    let list = waits_fit(waits);
+    let state = state_fits(waits, s);
+    then(words, then(list, state))
 }

@@ -122,6 +122,9 @@ impl State {
             self.begun = self.left > 0;
         } else if let Some(&wait) = waits.get(self.position as usize) {
             self.position += 1;
+            if self.position as usize == waits.len() {
+                self.position = 0;
+            }
             self.left = u32::from(wait);
             self.begun = wait > 0;
         }

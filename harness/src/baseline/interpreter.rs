@@ -172,6 +172,9 @@ impl<'a, const WAITS: bool, const JOURNAL: bool> Engine<'a, WAITS, JOURNAL> {
         if WAITS {
             if let Some(&wait) = self.waits.get(self.position) {
                 self.position += 1;
+                if self.position == self.waits.len() {
+                    self.position = 0;
+                }
                 return u64::from(wait);
             }
         }

@@ -46,10 +46,9 @@ fn check_measured() {
         generated(),
         moves_loop(),
     ];
-    let waiting = plain.each_ref().map(Workload::with_waits);
-    for workload in plain.iter().chain(&waiting) {
-        check_runs(workload, 65_536);
-        check_gates(workload, workload.state(), 50_000);
+    for workload in plain.into_iter().flat_map(Workload::with_lists) {
+        check_runs(&workload, 65_536);
+        check_gates(&workload, workload.state(), 50_000);
     }
 }
 

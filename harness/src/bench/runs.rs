@@ -9,7 +9,7 @@ use crate::baseline::{Contender, CONTENDERS};
 pub fn interpreter(sizes: Sizes) -> Table {
     let mut rows = Vec::new();
     for workload in [register_loop(), stacking_loop(), generated()] {
-        for workload in [workload.with_waits(), workload].into_iter().rev() {
+        for workload in workload.with_lists() {
             let mut tasks = CONTENDERS.each_ref().map(|contender| -> Task {
                 let workload = workload.clone();
                 Box::new(move || run(contender, &workload, sizes.instructions))
@@ -40,9 +40,8 @@ fn run(contender: &Contender, workload: &Workload, count: u32) -> f64 {
 
 pub fn gate_machine(sizes: Sizes) -> Table {
     let mut rows = Vec::new();
-    let stacking = stacking_loop();
-    let waiting = stacking.with_waits();
-    for workload in [register_loop(), stacking, moves_loop(), waiting] {
+    let [stacking, long, short] = stacking_loop().with_lists();
+    for workload in [register_loop(), stacking, moves_loop(), long, short] {
         let mut tasks = CONTENDERS.each_ref().map(|contender| -> Task {
             let workload = workload.clone();
             Box::new(move || gate_run(contender, &workload, sizes.clocks))

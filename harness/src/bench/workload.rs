@@ -47,13 +47,15 @@ impl Workload {
         }
     }
 
-    /// The same with the longest wait list, entries 0 to 4.
-    pub fn with_waits(&self) -> Workload {
-        Workload {
-            name: format!("{}, waits", self.name),
-            waits: (0..65_536u32).map(|i| (i % 5) as u16).collect(),
+    /// Itself, without waits; then with the longest wait list, and with the shortest
+    /// that has the same waits, 0 to 4, and comes round again and again.
+    pub fn with_lists(self) -> [Workload; 3] {
+        let [long, short] = [("waits", 65_536), ("5 waits", 5)].map(|(name, entries)| Workload {
+            name: format!("{}, {name}", self.name),
+            waits: (0..entries).map(|i: u32| (i % 5) as u16).collect(),
             ..self.clone()
-        }
+        });
+        [self, long, short]
     }
 
     /// The gate state between instructions, latches 0.

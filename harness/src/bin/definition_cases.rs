@@ -1,10 +1,10 @@
 //! Prints crates/definition_cases/specs/Cases.antt: generated programs and gate
-//! states with the reference emulator's results, for the prover to compute the
-//! definitions on.
+//! states with the reference emulator's results and refusals, for the prover to
+//! compute the definitions on.
 
 use harness::case_words::{flag_number, latch_words};
 use reference::generate::program::{any_program, Program};
-use reference::generate::state::gate_state;
+use reference::generate::state::{gate_state, refused_gate_state};
 use reference::rng::Rng;
 use reference::{file_run, gate_run, run, Answer, GateState};
 use std::fmt::Write;
@@ -12,13 +12,14 @@ use std::fmt::Write;
 const SEED: u64 = 8502;
 const RUNS: usize = 300;
 const GATE_RUNS: usize = 300;
+const VERDICTS: usize = 100;
 
 /// What stands before the cases.
-const HEAD: &str = "-- Cases of both engines, of document 01, \"Machine and instruction word\", \"Clocks\" and \"File run and journal\", made by
--- harness/definition_cases from a seed with the reference emulator's results: do not edit.
+const HEAD: &str = "-- Cases of both engines, of document 01, \"Machine and instruction word\", \"Clocks\", \"File run and journal\" and \"Why a call is turned
+-- down\", and of document 02, CR 3, made by harness/definition_cases from a seed with the reference emulator's results: do not edit.
 use mathlib.Core.Bool.{true, false}
 use mathlib.Core.List.{List, [], _∷_}
-use Rattle.definition_cases.specs.Shape.{RunCase, GateCase, runCase, gateCase}
+use Rattle.definition_cases.specs.Shape.{RunCase, GateCase, VerdictCase, runCase, gateCase, verdictCase}
 ";
 
 fn main() {
@@ -28,6 +29,9 @@ fn main() {
     list(&mut out, "runCases", "RunCase", &runs);
     let gates: Vec<String> = (0..GATE_RUNS).map(|i| gate_case(&mut rng, i)).collect();
     list(&mut out, "gateCases", "GateCase", &gates);
+    let mut verdicts: Vec<String> = (0..VERDICTS).map(|i| state_verdict(&mut rng, i)).collect();
+    verdicts.extend(position_verdicts());
+    list(&mut out, "verdictCases", "VerdictCase", &verdicts);
     print!("{out}");
 }
 
@@ -100,6 +104,45 @@ fn gate_case(rng: &mut Rng, number: usize) -> String {
         words(&g.state.registers),
         latches(&g.state),
         g.finished,
+    )
+}
+
+/// Whether a gate run takes a state in any row; every other is refused.
+fn state_verdict(rng: &mut Rng, number: usize) -> String {
+    let p = small(rng);
+    let (words, entries) = (p.memory.len(), p.waits.len());
+    let state = if number % 2 == 0 {
+        gate_state(rng, words, entries)
+    } else {
+        refused_gate_state(rng, words, entries)
+    };
+    verdict_case(&p.memory, &p.waits, &state)
+}
+
+/// List positions before, at and past the end of short lists and of none.
+fn position_verdicts() -> Vec<String> {
+    let mut cases = Vec::new();
+    for entries in [0, 1, 2, 3, 5] {
+        for position in [0, 1, entries.max(1) - 1, entries, entries + 1, 65_536] {
+            let state = GateState {
+                position,
+                ..GateState::default()
+            };
+            cases.push(verdict_case(&[0], &vec![1; entries as usize], &state));
+        }
+    }
+    cases
+}
+
+/// The refusal's number, 0 for none.
+fn verdict_case(memory: &[u32], waits: &[u16], state: &GateState) -> String {
+    let answer = gate_run(&mut memory.to_vec(), waits, *state, 0).answer;
+    format!(
+        "verdictCase {} {} {} {}",
+        words(memory),
+        numbers(waits),
+        latches(state),
+        answer.map_or_else(|refusal| refusal.number(), |()| 0),
     )
 }
 

@@ -3,7 +3,6 @@
 use super::Case;
 use reference::generate::program::{any_program, Program};
 use reference::generate::state::{gate_state, refused_gate_state};
-use reference::refusal::MOST_WAITS;
 use reference::rng::Rng;
 use reference::GateState;
 
@@ -16,7 +15,7 @@ const MOST_LIST: usize = 64;
 pub fn cases() -> Vec<Case> {
     let mut rng = Rng::new(SEED);
     let mut cases: Vec<Case> = (0..STATES).map(|i| state_case(&mut rng, i)).collect();
-    cases.push(highest_position());
+    cases.extend(list_ends());
     cases
 }
 
@@ -52,15 +51,25 @@ fn state_case(rng: &mut Rng, number: usize) -> Case {
     }
 }
 
-/// The highest list position that is not turned down, which generated states seldom have.
-fn highest_position() -> Case {
-    Case {
-        memory: vec![0x0001_0021, 0],
-        waits: vec![3, 1],
-        state: GateState {
-            position: MOST_WAITS as u32,
-            ..GateState::default()
-        },
-        clocks: 12,
+/// Lists of every short length and none, from the last entry, which comes round, and
+/// from the list's end and past it, which is refused.
+fn list_ends() -> Vec<Case> {
+    let mut cases = Vec::new();
+    for entries in [0, 1, 2, 3, 5] {
+        let end = u32::max(entries, 1);
+        for position in [end - 1, end, end + 1, 65_536] {
+            cases.push(Case {
+                // inc (r1),(r1), and a jump to it: six accesses a turn.
+                memory: vec![0x0001_0129, 0x0000_0018, u32::MAX, 0],
+                waits: (1..=entries as u16).rev().collect(),
+                state: GateState {
+                    registers: [0, 3, 0, 0, 0, 0, 0, 0],
+                    position,
+                    ..GateState::default()
+                },
+                clocks: 300,
+            });
+        }
     }
+    cases
 }

@@ -1,5 +1,5 @@
-//! As far as the rules let a run go: a full wait list, a full journal, and a
-//! clock total of more than 32 bits.
+//! As far as the rules let a run go: a wait list that comes round many times, a
+//! full one that comes round, a full journal, and a clock total of more than 32 bits.
 
 use super::programs::{self, Tally};
 use super::Check;
@@ -19,27 +19,29 @@ const ADD: u8 = 3;
 const NONE: [bool; 4] = [false; 4];
 
 pub fn check(rng: &mut Rng, tally: &mut Tally) -> Check {
-    let short = (0..MOST_WAITS).map(|_| rng.between(1, 4) as u16).collect();
-    programs::check_program(rng, &passing_its_list(short), tally)?;
+    for entries in [1, 2, 3, 5, MOST_WAITS] {
+        let waits = (0..entries).map(|_| rng.between(0, 4) as u16).collect();
+        programs::check_program(rng, &crossing_its_list(waits), tally)?;
+    }
     for outside in [false, true] {
         let program = full_journal(rng, outside);
         programs::check_program(rng, &program, tally)?;
     }
     // A gate run of so many clocks would take too long.
-    let total = programs::check_run(&passing_its_list(vec![u16::MAX; MOST_WAITS]), tally)?;
+    let total = programs::check_run(&crossing_its_list(vec![u16::MAX; MOST_WAITS]), tally)?;
     if total <= u64::from(u32::MAX) {
         return Err(format!("a clock total of {total} is of 32 bits\n"));
     }
     Ok(())
 }
 
-/// Two instructions in a loop, six accesses a turn, until after the list's end:
-/// the last word counts the turns, and the jump takes r0 to the top address, from
-/// which it steps up to 0.
-fn passing_its_list(waits: Vec<u16>) -> Program {
+/// Two instructions in a loop, six accesses a turn, until a full list has begun
+/// again, and a short one some hundred times: the last word counts the turns, and the
+/// jump takes r0 to the top address, from which it steps up to 0.
+fn crossing_its_list(waits: Vec<u16>) -> Program {
     let mut start = Machine::default();
     start.registers[4] = 3;
-    let turns = waits.len() as u32 / 6 + 2;
+    let turns = waits.len() as u32 / 6 + 400;
     Program {
         memory: vec![
             compute(INCREMENT, NONE, Operand::Indirect(4), Operand::Indirect(4)),

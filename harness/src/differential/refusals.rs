@@ -1,6 +1,7 @@
 //! Calls that are refused for one reason or for several: which number comes first.
 
 use super::{expected, proved, run_case, same, Check};
+use crate::words::state_words;
 use fm8502::library::{self, MACHINE_SIZE, STATE_SIZE, STOPPED};
 use reference::generate::program::{program, Kind};
 use reference::generate::state::{gate_state, refused_gate_state};
@@ -29,6 +30,9 @@ pub fn check(rng: &mut Rng) -> Result<usize, String> {
             check_run(memory, &waits[..entries], &good.start)?;
             calls += 1 + check_gate(rng, memory, &waits[..entries])?;
             calls += check_too_wide(memory, &waits[..entries])?;
+        }
+        for entries in [0, 1, 2, 3, 5, 65_535, 65_536, 65_537] {
+            calls += check_positions(memory, &waits[..entries])?;
         }
         calls += check_file_run(memory, &good.start)?;
         calls += check_write(memory, &good.start)?;
@@ -61,6 +65,31 @@ fn check_gate(rng: &mut Rng, memory: &[u32], waits: &[u16]) -> Result<usize, Str
         })?;
     }
     Ok(STATES)
+}
+
+/// List positions up to the list's end, at it and past it, in a state that is good
+/// otherwise: row 4 takes an entry.
+fn check_positions(memory: &[u32], waits: &[u16]) -> Result<usize, String> {
+    let end = waits.len() as u32;
+    let last = end.saturating_sub(1);
+    let positions = [0, 1, last, end, end + 1, 65_536, 65_537, 1 << 31, u32::MAX];
+    for position in positions {
+        let state = GateState {
+            row: 4,
+            position,
+            ..GateState::default()
+        };
+        let case = || {
+            let far = format!("row 4, list position {position}, a clock");
+            run_case(memory, &state.machine(), waits, far)
+        };
+        let expected = expected::gate_run(memory, waits, &state, 1);
+        let run = proved::gate_run(memory, waits, &state, 1);
+        same("gate run", &run, &expected, case)?;
+        let clock = proved::clock(memory, waits, &state_words(&state));
+        same("clock", &clock, &expected, case)?;
+    }
+    Ok(2 * positions.len())
 }
 
 /// Words that are no row of 8 bits or no clocks left of 16 bits are refused as a row

@@ -269,11 +269,12 @@ fn any_address(rng: &mut Rng, length: usize) -> u32 {
     }
 }
 
-/// None, fewer than the run needs, or more; now and then one is very long.
+/// None, a few that come round many times, fewer than the run needs, or more; now
+/// and then one is very long.
 fn waits(rng: &mut Rng, count: usize) -> Vec<u16> {
     let entries = match rng.below(4) {
         0 => 0,
-        1 => rng.between(1, 4),
+        1 => rng.pick(&[1, 2, 3, 5]),
         2 => rng.between(1, 4 * count + 1),
         _ => 4 * count + rng.below(9),
     };

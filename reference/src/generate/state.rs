@@ -2,7 +2,6 @@
 
 use super::flags;
 use crate::gates::GateState;
-use crate::refusal::MOST_WAITS;
 use crate::rng::Rng;
 
 /// An accepted state in any row, for a memory of `words` words and a wait list
@@ -15,10 +14,11 @@ pub fn gate_state(rng: &mut Rng, words: usize, entries: usize) -> GateState {
         0 => rng.between(1, usize::from(u16::MAX)) as u16,
         _ => rng.between(1, 5) as u16,
     };
-    let position = match rng.below(5) {
-        0 => rng.below(MOST_WAITS + 1),
-        1 => entries.min(MOST_WAITS),
-        _ => rng.below(entries.min(MOST_WAITS) + 1),
+    // An empty list has position 0, as a list of one entry has.
+    let positions = entries.max(1);
+    let position = match rng.below(4) {
+        0 => positions - 1,
+        _ => rng.below(positions),
     };
     GateState {
         registers: [(); 8].map(|()| latch(rng, words)),
@@ -40,13 +40,7 @@ pub fn refused_gate_state(rng: &mut Rng, words: usize, entries: usize) -> GateSt
     let mut state = gate_state(rng, words, entries);
     match rng.below(5) {
         0 => state.row = rng.between(12, 255) as u8,
-        1 => {
-            state.position = if rng.flag() {
-                MOST_WAITS as u32 + 1
-            } else {
-                rng.word() | 0x0002_0000
-            }
-        }
+        1 => state.position = position_past(rng, entries),
         2 => {
             state.row = rng.pick(&[0, 2, 3, 5, 7, 8, 10, 11]);
             state.begun = true;
@@ -63,6 +57,17 @@ pub fn refused_gate_state(rng: &mut Rng, words: usize, entries: usize) -> GateSt
         }
     }
     state
+}
+
+/// At the list's end or past it; 0 fits an empty list too.
+fn position_past(rng: &mut Rng, entries: usize) -> u32 {
+    let first = entries.max(1);
+    match rng.below(4) {
+        0 => u32::MAX,
+        1 => rng.between(first, first + 9) as u32,
+        2 => rng.between(first, u32::MAX as usize) as u32,
+        _ => first as u32,
+    }
 }
 
 fn is_access(row: u8) -> bool {

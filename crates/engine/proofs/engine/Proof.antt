@@ -58,7 +58,9 @@ returns c =
     (c .run-end .ensures))
 
 clocked-requires : tie.Need-clocked-requires Inv-loop μ-loop
-clocked-requires c κs = fits-at (c .before .before .before .before .before .before .before .before .before .before)
+clocked-requires c κs =
+    let turned = c .before .before .before .before .before .before .before .before .before .before in
+    (fits-at turned, turned .before .loop .inv .fits)
 
 add-i : tie.Need-add-i Inv-loop μ-loop
 add-i c = omega (arith, few-at (c .before .before .before .before .before .before .before .before .before .before .before))

@@ -2,8 +2,11 @@ use borrow.Author.Needs.{needs}
 use Rattle.verdicts.proofs.state_fits.Statement.{statement}
 use Rattle.verdicts.proofs.state_fits.Tie as tie
 
-cast-demand : tie.Need-cast-demand
-cast-demand c = search needs
+cast-position-fits : tie.Need-cast-position-fits
+cast-position-fits c = search needs
+
+position-fits-requires : tie.Need-position-fits-requires
+position-fits-requires c κs = search needs
 
 access-formed-requires : tie.Need-access-formed-requires
 access-formed-requires c κs = search needs
@@ -12,7 +15,8 @@ demand-requires : tie.Need-demand-requires
 demand-requires c κs = search needs
 
 returns : tie.Need-returns
-returns c = rw (c .demand .ensures, c .before .access-formed .ensures)
+returns c = rw (c .demand .ensures, c .before .before .position-fits .ensures, c .before .access-formed .ensures)
 
 pub state-fits-spec : {M : Type 1} → statement M
-state-fits-spec = tie.close (tie.spec cast-demand access-formed-requires demand-requires returns)
+state-fits-spec =
+    tie.close (tie.spec cast-position-fits position-fits-requires access-formed-requires demand-requires returns)

@@ -1,5 +1,5 @@
 use borrow.Author.Needs.{needs}
-use Rattle.engine.proofs.Spending.{clocked-walks, clocked-past}
+use Rattle.engine.proofs.Spending.{clocked-walks, clocked-empty}
 use Rattle.engine.proofs.clocks.clocked.Statement.{statement}
 use Rattle.engine.proofs.clocks.clocked.Tie as tie
 
@@ -18,9 +18,10 @@ add-clocks c = search needs
 returns : tie.Need-returns
 returns c =
     let cost = c .before .before in
-    let args = cost .before .before .before .before .args in
-    clocked-past (args .waits .now) (args .w) (args .oa) (args .ob) (args .stored) (cost .before .before .in-memory .ensures)
-    (cost .before .in-memory2 .ensures) (cost .cost .ensures .0) (c .if1 .taken)
+    let start = cost .before .before .before .before in
+    let args = start .args in
+    clocked-empty (args .waits .now) (args .w) (c .if1 .taken) (start .pre .1) (args .oa) (args .ob) (args .stored) (cost .before .before .in-memory .ensures)
+    (cost .before .in-memory2 .ensures) (cost .cost .ensures .0)
 
 more-requires : tie.Need-more-requires
 more-requires c κs = search needs
