@@ -1,4 +1,4 @@
-"""What the module refuses before a call, and that arrays are lent without a copy.
+"""What the module refuses, how a wait list goes on, and that arrays are lent without a copy.
 
 numpy is looked at where it is installed.
 """
@@ -72,6 +72,20 @@ def check_undone():
     assert machine.registers[:2] == [1, 1] and machine.flags == [True, False, True, False]
 
 
+def check_wait_list():
+    """The list comes round in both engines; a state's position is in its list, or 0."""
+    # move (r1),(r1), five times: 11 clocks and four accesses each
+    memory, waits = array("I", [0x00000129] * 5), array("H", [1, 2, 3, 4, 5])
+    ran = fm8502.run(memory, waits, fm8502.Machine(), 5)
+    assert ran.clocks == 5 * 11 + 4 * sum(waits)
+    state = fm8502.GateState()
+    assert fm8502.gate_run(memory, waits, state, ran.clocks) == 5 and state.position == 0
+    for lent, position in ((array("H"), 1), (waits, 5)):
+        past = fm8502.GateState(position=position)
+        refuses(fm8502.Refused, "list position", fm8502.clock, memory, lent, past)
+        refuses(fm8502.Refused, "refused 4", fm8502.gate_run, memory, lent, past, 0)
+
+
 def check_numpy():
     """What is lent is the array itself, also a wait list and a part of an array."""
     words = numpy.array([*PROGRAM, 0, 0], dtype=numpy.uint32)
@@ -98,6 +112,7 @@ check_machine()
 check_shared()
 check_shapes()
 check_undone()
+check_wait_list()
 if numpy is not None:
     check_numpy()
 print("python: checked", "with numpy" if numpy is not None else "without numpy")

@@ -31,11 +31,11 @@ module _ (waits : List ℕ) where
   no-wait p h = List·getD-eq-default waits 0 {n = p} h
 
   -- one further, or the list begins again
-  pub next-further : (p : ℕ) → p + 1 < length waits → nextPosition waits p ≡ p + 1
+  next-further : (p : ℕ) → p + 1 < length waits → nextPosition waits p ≡ p + 1
   unfolding nextPosition
   next-further p h = rw (lt-ltb (p + 1) (length waits) h)
 
-  pub next-again : (p : ℕ) → length waits ≤ p + 1 → nextPosition waits p ≡ 0
+  next-again : (p : ℕ) → length waits ≤ p + 1 → nextPosition waits p ≡ 0
   unfolding nextPosition
   next-again p h = rw (le-ltb (p + 1) (length waits) h)
 
@@ -101,26 +101,26 @@ module _ (waits : List ℕ) where
 
   -- ---- whole rounds
 
-  one-more : (n : ℕ) → positionAfter waits 0 (suc n) ≡ nextPosition waits (positionAfter waits 0 n)
+  one-further : (n : ℕ) → positionAfter waits 0 (suc n) ≡ nextPosition waits (positionAfter waits 0 n)
   unfolding positionAfter
-  one-more n = ap (positionAfter waits 0) (sym (add-one n)) ∙ position-add n 1 0
+  one-further n = ap (positionAfter waits 0) (sym (add-one n)) ∙ position-add n 1 0
 
-  within : (i : ℕ) → i < length waits → positionAfter waits 0 i ≡ i
+  first-round : (i : ℕ) → i < length waits → positionAfter waits 0 i ≡ i
   unfolding positionAfter
-  within zero h = refl
-  within (suc i) h = one-more i ∙ ap (nextPosition waits) (within i (omega arith)) ∙ next-further i (omega arith) ∙ add-one i
+  first-round zero h = refl
+  first-round (suc i) h = one-further i ∙ ap (nextPosition waits) (first-round i (omega arith)) ∙ next-further i (omega arith) ∙ add-one i
 
-  round : (n : ℕ) → length waits ≡ n → positionAfter waits 0 n ≡ 0
+  one-round : (n : ℕ) → length waits ≡ n → positionAfter waits 0 n ≡ 0
   unfolding positionAfter
-  round zero e = refl
-  round (suc n) e = one-more n ∙ ap (nextPosition waits) (within n (omega arith)) ∙ next-again n (omega arith)
+  one-round zero e = refl
+  one-round (suc n) e = one-further n ∙ ap (nextPosition waits) (first-round n (omega arith)) ∙ next-again n (omega arith)
 
-  rounds : (k i : ℕ) → positionAfter waits 0 (k * length waits + i) ≡ positionAfter waits 0 i
-  rounds zero i = rw (zero-mul, zero-add) refl
-  rounds (suc k) i =
+  whole-rounds : (k i : ℕ) → positionAfter waits 0 (k * length waits + i) ≡ positionAfter waits 0 i
+  whole-rounds zero i = rw (zero-mul, zero-add) refl
+  whole-rounds (suc k) i =
       let L = length waits in
       let e : suc k * L + i ≡ L + (k * L + i) = rw (suc-mul k L) (omega arith) in
-      ap (positionAfter waits 0) e ∙ position-add L (k * L + i) 0 ∙ ap (λ (p : ℕ). positionAfter waits p (k * L + i)) (round L refl) ∙ rounds k i
+      ap (positionAfter waits 0) e ∙ position-add L (k * L + i) 0 ∙ ap (λ (p : ℕ). positionAfter waits p (k * L + i)) (one-round L refl) ∙ whole-rounds k i
 
 pub comes-round : ComesRound
-comes-round waits k i h = rounds waits k i ∙ within waits i h
+comes-round waits k i h = whole-rounds waits k i ∙ first-round waits i h
