@@ -124,7 +124,7 @@ uint32_t fm8502_file_run(uint32_t *memory, size_t memory_words, uint32_t *journa
 /*
  * Does so many clocks of the gate machine. To start between instructions at the
  * head of the wait list: the machine's 12 words, and 0 in the other 9. A run that
- * follows on is lent the state, with its list position, and the same list.
+ * follows on is lent the state as it was left, and goes on in the list from there.
  * result, 1 place: instructions finished in these clocks.
  * Codes: 0, 1, 2, 3, 4, 200.
  */

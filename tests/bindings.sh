@@ -1,6 +1,6 @@
 #!/usr/bin/env bash
 # Builds and runs the C, Rust and Python examples; each must print what the reference emulator computed. The reasons to refuse a call read
-# alike in all three. What Python refuses of its own accord is tried too.
+# alike in all three. What Python refuses of its own accord is tried too, and how a wait list goes on.
 # The static library comes first: rt staticlib host.
 set -euo pipefail
 cd "$(dirname "$0")/.."

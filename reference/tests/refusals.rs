@@ -117,6 +117,7 @@ fn gate_states() {
         let access = [1, 4, 6, 9].contains(&row);
         assert_eq!(is_refused(row, false, 0), row > 11);
         assert_eq!(is_refused(row, true, 1), !access);
+        assert_eq!(is_refused(row, true, u16::MAX), !access);
         assert!(is_refused(row, true, 0));
         assert!(is_refused(row, false, 1));
         assert!(is_refused(row, false, u16::MAX));

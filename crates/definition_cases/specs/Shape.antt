@@ -75,7 +75,7 @@ gateHolds (gateCase memory waits regs latches clocks memory′ regs′ latches�
     && same (latchesOf (g .state)) latches′
     && eqb (g .finished) finished
 
--- ---- whether a gate run takes a state: the refusal's number, 0 for none
+-- ---- whether a gate run takes a memory and a state: 0, or the refusal's number, 1 or 4
 
 pub data VerdictCase : Type 0 where
   verdictCase : (memory waits latches : List ℕ) (number : ℕ) → VerdictCase

@@ -9,8 +9,7 @@ use native.Mathlib.Omega.{arith}
 use lib.Dec.{eqb, ltb}
 use lib.ListN.{length, List·getD-eq-default}
 use borrow.Author.Tests.{ltb-true, ltb-false, lt-ltb, le-ltb, eqb-true}
-use Rattle.model.specs.Waits.{waitAt, nextPosition, positionFits, waitSum, positionAfter}
-use Rattle.model.specs.Waiting.{ComesRound}
+use Rattle.model.specs.Waits.{waitAt, nextPosition, positionFits, waitSum, positionAfter, ComesRound}
 
 module _ (waits : List ℕ) where
   pub sum-add : (i j p : ℕ) → waitSum waits p (i + j) ≡ waitSum waits p i + waitSum waits (positionAfter waits p i) j
@@ -78,6 +77,7 @@ module _ (waits : List ℕ) where
       go true e _ = eqb-true p 0 e
       go false _ e = omega (arith, ltb-true p (length waits) e)
 
+  -- (any position is followed by one that fits; by another rule for the end, only one that fits would be)
   pub next-fits : (p : ℕ) → positionFits waits p ≡ true → positionFits waits (nextPosition waits p) ≡ true
   next-fits p _ = next-either (λ (q : ℕ). positionFits waits q ≡ true) p (below-fits (p + 1)) (λ _. first-fits)
 

@@ -61,6 +61,7 @@ pub fn file_verdict(memory: &[u32], journal: &[u32], count: u32) -> Verdict
 pub fn gate_verdict(memory: &[u32], waits: &[u16], s: GateState) -> Verdict
     ensures { λ r. ⌜ r ≡ gateVerdict (now (memory .entry)) (now (waits .entry)) s ⌝ }
 {
+    // 1 and 2; 3; 4.
     let words = memory_fits(memory);
     let list = waits_fit(waits);
     let state = state_fits(waits, s);

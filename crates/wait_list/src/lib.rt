@@ -1,4 +1,4 @@
-// The wait list, which begins again at its end (document 02, CR 3): of the code this crate alone knows where it does.
+// The wait list, which begins again at its end (document 02, CR 3): the one place of the code that says where.
 ghost use mathlib.Core.Path.{_≡_};
 ghost use Rattle.model.specs.Waits.{waitAt, nextPosition, positionFits};
 
@@ -12,7 +12,7 @@ pub fn wait_at(waits: &[u16], position: usize) -> u16
     waits[position]
 }
 
-// The position after the last entry is the first. Past any list the sum would overflow, and goes round to 0 too.
+// After the last entry the first. Of the highest position the sum goes round to 0, which is right there too.
 pub fn next_position(waits: &[u16], position: usize) -> usize
     ensures { λ r. ⌜ r ≡ nextPosition (now (waits .entry)) position ⌝ }
 {

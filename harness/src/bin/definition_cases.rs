@@ -107,15 +107,19 @@ fn gate_case(rng: &mut Rng, number: usize) -> String {
     )
 }
 
-/// Whether a gate run takes a state in any row; every other is refused.
+/// Whether a gate run takes a state in any row; every other is refused, and every
+/// tenth for its memory.
 fn state_verdict(rng: &mut Rng, number: usize) -> String {
-    let p = small(rng);
+    let mut p = small(rng);
     let (words, entries) = (p.memory.len(), p.waits.len());
     let state = if number % 2 == 0 {
         gate_state(rng, words, entries)
     } else {
         refused_gate_state(rng, words, entries)
     };
+    if number % 10 == 9 {
+        p.memory.clear();
+    }
     verdict_case(&p.memory, &p.waits, &state)
 }
 
@@ -123,7 +127,7 @@ fn state_verdict(rng: &mut Rng, number: usize) -> String {
 fn position_verdicts() -> Vec<String> {
     let mut cases = Vec::new();
     for entries in [0, 1, 2, 3, 5] {
-        for position in [0, 1, entries.max(1) - 1, entries, entries + 1, 65_536] {
+        for position in (0..=entries + 1).chain([65_536]) {
             let state = GateState {
                 position,
                 ..GateState::default()

@@ -74,9 +74,9 @@ fn check_long(seed: u64) {
     let mut tally = programs::Tally::default();
     settle(
         long::check(&mut Rng::new(seed), &mut tally),
-        &format!("full lists and journals, --seed {seed}"),
+        &format!("turning lists and full journals, --seed {seed}"),
     );
-    println!("full wait lists and journals agree, seed {seed}: {tally}");
+    println!("turning wait lists and full journals agree, seed {seed}: {tally}");
 }
 
 fn check_images(seed: u64, cases: u64) {

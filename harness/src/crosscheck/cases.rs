@@ -51,8 +51,8 @@ fn state_case(rng: &mut Rng, number: usize) -> Case {
     }
 }
 
-/// Lists of every short length and none, from the last entry, which comes round, and
-/// from the list's end and past it, which is refused.
+/// Lists of 0, 1, 2, 3 and 5 entries: from the last one, which comes round, and from the
+/// list's end and past it, which is refused.
 fn list_ends() -> Vec<Case> {
     let mut cases = Vec::new();
     for entries in [0, 1, 2, 3, 5] {

@@ -20,7 +20,8 @@ const NONE: [bool; 4] = [false; 4];
 
 pub fn check(rng: &mut Rng, tally: &mut Tally) -> Check {
     for entries in [1, 2, 3, 5, MOST_WAITS] {
-        let waits = (0..entries).map(|_| rng.between(0, 4) as u16).collect();
+        // Two entries in a row differ, the last and the first too: a wrong one is seen.
+        let waits = (0..entries).map(|i| (i % 7) as u16 + 1).collect();
         programs::check_program(rng, &crossing_its_list(waits), tally)?;
     }
     for outside in [false, true] {
@@ -36,7 +37,7 @@ pub fn check(rng: &mut Rng, tally: &mut Tally) -> Check {
 }
 
 /// Two instructions in a loop, six accesses a turn, until a full list has begun
-/// again, and a short one some hundred times: the last word counts the turns, and the
+/// again, and a short one hundreds of times: the last word counts the turns, and the
 /// jump takes r0 to the top address, from which it steps up to 0.
 fn crossing_its_list(waits: Vec<u16>) -> Program {
     let mut start = Machine::default();

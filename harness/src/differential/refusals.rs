@@ -72,8 +72,10 @@ fn check_gate(rng: &mut Rng, memory: &[u32], waits: &[u16]) -> Result<usize, Str
 fn check_positions(memory: &[u32], waits: &[u16]) -> Result<usize, String> {
     let end = waits.len() as u32;
     let last = end.saturating_sub(1);
-    let positions = [0, 1, last, end, end + 1, 65_536, 65_537, 1 << 31, u32::MAX];
-    for position in positions {
+    let mut positions = vec![0, 1, last, end, end + 1, 65_536, 65_537, 1 << 31, u32::MAX];
+    positions.sort();
+    positions.dedup();
+    for &position in &positions {
         let state = GateState {
             row: 4,
             position,

@@ -270,7 +270,7 @@ fn any_address(rng: &mut Rng, length: usize) -> u32 {
 }
 
 /// None, a few that come round many times, fewer than the run needs, or more; now
-/// and then one is very long.
+/// and then one wait is very long.
 fn waits(rng: &mut Rng, count: usize) -> Vec<u16> {
     let entries = match rng.below(4) {
         0 => 0,

@@ -59,7 +59,7 @@ pub fn refused_gate_state(rng: &mut Rng, words: usize, entries: usize) -> GateSt
     state
 }
 
-/// At the list's end or past it; 0 fits an empty list too.
+/// At the list's end or past it; 0 fits an empty list, so 1 is the first past that.
 fn position_past(rng: &mut Rng, entries: usize) -> u32 {
     let first = entries.max(1);
     match rng.below(4) {
