@@ -12,17 +12,17 @@ use Rattle.model.specs.Journal.{storedBy, journalPairs, journalWords}
 use Rattle.model.specs.GateMachine.{work, isAccess, remaining, positionNow, workOrWait, clock, gateRun}
 use Rattle.model.specs.Packed.{packedOf, flagsOf, latchWords}
 use Rattle.model.specs.Refusals.{gateVerdict}
-use Rattle.definition_cases.specs.Shape.{runFailures, gateFailures, verdictFailures}
+use Rattle.definition_cases.specs.Shape.{runHolds, gateHolds, verdictHolds, failures}
 use Rattle.definition_cases.specs.Cases.{runCases, gateCases, verdictCases}
 
-pub runs : runFailures 0 runCases ≡ []
+pub runs : failures runHolds 0 runCases ≡ []
 unfolding field bit packedOf flagsOf operandA operandB signedOf leaves sumOf differenceOf halvedOf answers aluAt aluOf isMove operation alu flagsAfter stores waitAt nextPosition waitSum positionAfter execute stop advance interpret storedBy journalPairs journalWords
 runs = refl
 
-pub gates : gateFailures 0 gateCases ≡ []
+pub gates : failures gateHolds 0 gateCases ≡ []
 unfolding field bit packedOf flagsOf latchWords operandA operandB signedOf leaves sumOf differenceOf halvedOf answers aluAt aluOf isMove operation alu flagsAfter stores waitAt nextPosition work isAccess remaining positionNow workOrWait clock gateRun
 gates = refl
 
-pub verdicts : verdictFailures 0 verdictCases ≡ []
+pub verdicts : failures verdictHolds 0 verdictCases ≡ []
 unfolding flagsOf isAccess positionFits gateVerdict
 verdicts = refl

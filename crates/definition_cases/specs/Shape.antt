@@ -83,16 +83,8 @@ pub data VerdictCase : Type 0 where
 abbrev pub verdictHolds : VerdictCase → Bool
 verdictHolds (verdictCase memory waits latches number) = eqb (verdictNumber (gateVerdict memory waits (caseState [] latches))) number
 
--- ---- the numbers of the cases that do not hold
+-- ---- the numbers, from i, of the cases that do not hold
 
-abbrev pub runFailures : ℕ → List RunCase → List ℕ
-runFailures i [] = []
-runFailures i (c ∷ cs) = cond (runHolds c) (runFailures (suc i) cs) (i ∷ runFailures (suc i) cs)
-
-abbrev pub gateFailures : ℕ → List GateCase → List ℕ
-gateFailures i [] = []
-gateFailures i (c ∷ cs) = cond (gateHolds c) (gateFailures (suc i) cs) (i ∷ gateFailures (suc i) cs)
-
-abbrev pub verdictFailures : ℕ → List VerdictCase → List ℕ
-verdictFailures i [] = []
-verdictFailures i (c ∷ cs) = cond (verdictHolds c) (verdictFailures (suc i) cs) (i ∷ verdictFailures (suc i) cs)
+abbrev pub failures : {Case : Type 0} → (Case → Bool) → ℕ → List Case → List ℕ
+failures holds i [] = []
+failures holds i (c ∷ cs) = cond (holds c) (failures holds (suc i) cs) (i ∷ failures holds (suc i) cs)

@@ -8,7 +8,7 @@ use native.Mathlib.Numerals.{add-one}
 use native.Mathlib.Omega.{arith}
 use lib.Dec.{eqb, ltb}
 use lib.ListN.{length, List·getD-eq-default}
-use borrow.Author.Tests.{ltb-true, ltb-false, lt-ltb, le-ltb, eqb-true}
+use borrow.Author.Tests.{ltb-true, ltb-false, lt-ltb, eqb-true}
 use Rattle.model.specs.Waits.{waitAt, nextPosition, positionFits, waitSum, positionAfter, ComesRound}
 
 module _ (waits : List ℕ) where
@@ -29,16 +29,7 @@ module _ (waits : List ℕ) where
   unfolding waitAt
   no-wait p h = List·getD-eq-default waits 0 {n = p} h
 
-  -- one further, or the list begins again
-  next-further : (p : ℕ) → p + 1 < length waits → nextPosition waits p ≡ p + 1
-  unfolding nextPosition
-  next-further p h = rw (lt-ltb (p + 1) (length waits) h)
-
-  next-again : (p : ℕ) → length waits ≤ p + 1 → nextPosition waits p ≡ 0
-  unfolding nextPosition
-  next-again p h = rw (le-ltb (p + 1) (length waits) h)
-
-  -- either way, for any fact about it
+  -- one further, or the list begins again: for any fact about it
   pub next-either : (P : ℕ → Type 0) (p : ℕ) → (p + 1 < length waits → P (p + 1)) → (length waits ≤ p + 1 → P 0) → P (nextPosition waits p)
   unfolding nextPosition
   next-either P p further again = go (ltb (p + 1) (length waits)) refl
@@ -46,6 +37,12 @@ module _ (waits : List ℕ) where
       go : (t : Bool) → ltb (p + 1) (length waits) ≡ t → P (cond t (p + 1) 0)
       go true e = further (ltb-true (p + 1) (length waits) e)
       go false e = again (ltb-false (p + 1) (length waits) e)
+
+  next-further : (p : ℕ) → p + 1 < length waits → nextPosition waits p ≡ p + 1
+  next-further p h = next-either (λ (q : ℕ). q ≡ p + 1) p (λ _. refl) (λ past. omega arith)
+
+  next-again : (p : ℕ) → length waits ≤ p + 1 → nextPosition waits p ≡ 0
+  next-again p h = next-either (λ (q : ℕ). q ≡ 0) p (λ less. omega arith) (λ _. refl)
 
   pub next-low : (p most : ℕ) → length waits ≤ most → nextPosition waits p ≤ most
   next-low p most h = next-either (λ (q : ℕ). q ≤ most) p (λ less. omega arith) (λ _. omega arith)
