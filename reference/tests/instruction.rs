@@ -4,7 +4,7 @@ mod common;
 
 use common::{flags, machine};
 use reference::rng::Rng;
-use reference::{run, Flags, Instruction, Operand};
+use reference::{gate_run, run, Flags, GateState, Instruction, Operand, RunResult};
 
 #[test]
 fn fields_are_at_their_bits() {
@@ -47,26 +47,35 @@ fn encoding_is_undone_by_decoding() {
     }
 }
 
-/// Whether r1 is moved to r2 under a condition and the flags before.
-fn moves(condition: u32, before: Flags) -> bool {
+/// One instruction with r1 = 7 and the other registers 0, in both machines.
+fn in_both(word: u32, before: Flags) -> RunResult {
     let mut start = machine(&[(1, 7)], "0000");
     start.flags = before;
-    let result = run(&mut [condition << 16 | 0x8041], &[], start, 1);
-    let moved = result.machine.registers[2] == 7;
-    assert_eq!(result.clocks, 8 + u64::from(moved));
-    assert_eq!(result.machine.flags, before);
-    moved
+    let result = run(&mut [word], &[], start, 1);
+    let gates = |clocks| gate_run(&mut [word], &[], GateState::start(start), clocks);
+    assert_eq!(gates(result.clocks - 1).finished, 0);
+    assert_eq!(gates(result.clocks).finished, 1);
+    assert_eq!(gates(result.clocks).state.machine(), result.machine);
+    result
 }
 
+/// On r1 and r2: with the move bit 0 the result is stored always, with 1 under
+/// the operation's condition. A store is one clock more.
 #[test]
 fn conditions() {
     for bits in 0..16 {
         let [c, v, n, z] = [8, 4, 2, 1].map(|bit| bits & bit != 0);
         let before = Flags::from_array([c, v, n, z]);
         let due = [!c, c, !v, v, !z, z, !n, n];
-        for condition in 0..16 {
-            let due = due.get(condition).copied().unwrap_or(true);
-            assert_eq!(moves(condition as u32, before), due, "{condition} {bits:b}");
+        for operation in 0..16 {
+            let word = (operation as u32) << 16 | 0x0041;
+            assert_eq!(in_both(word, before).clocks, 9, "{operation} {bits:b}");
+            let stored = due.get(operation).copied().unwrap_or(true);
+            let moved = in_both(word | 0x8000, before);
+            let (clocks, r2) = if stored { (9, 7) } else { (8, 0) };
+            assert_eq!(moved.clocks, clocks, "move {operation} {bits:b}");
+            assert_eq!(moved.machine.registers[2], r2);
+            assert_eq!(moved.machine.flags, before);
         }
     }
 }

@@ -1,14 +1,16 @@
 // What an instruction word says of computing: the operation, whether the result is stored, the permitted flags. The interpreter carries
 // the flags packed and the gate machine apart. Leaves that both engines use.
+mod storing;
+
 use arithmetic::AluOut;
 use model::Flags;
-use packed_flags::condition_of;
 use packed_flags::packed;
 use packed_flags::unpacked;
 ghost use mathlib.Core.Path.{_≡_};
 ghost use mathlib.Core.Bool.{cond};
-ghost use Rattle.model.specs.Alu.{isMove, operation, flagsAfter, stores};
+ghost use Rattle.model.specs.Alu.{isMove, operation, flagsAfter};
 ghost use Rattle.model.specs.Packed.{packedOf, flagsOf};
+pub use storing::stores;
 
 pub fn is_move(word: u32) -> bool
     ensures { λ r. ⌜ r ≡ isMove word ⌝ }
@@ -27,23 +29,6 @@ pub fn unit_operation(word: u32) -> u8
     ensures { λ r. ⌜ r ≡ cond (isMove word) 0 (operation word) ⌝ }
 {
     if is_move(word) { 0 } else { operation_of(word) }
-}
-
-// Whether the result is stored, on packed flags: the one place where this is decided.
-pub fn stores_packed(word: u32, flags: u32) -> bool
-    ensures { λ r. ⌜ r ≡ stores word (flagsOf flags) ⌝ }
-{
-    if is_move(word) {
-        condition_of(operation_of(word), flags)
-    } else {
-        true
-    }
-}
-
-pub fn stores_apart(word: u32, flags: Flags) -> bool
-    ensures { λ r. ⌜ r ≡ stores word flags ⌝ }
-{
-    stores_packed(word, packed(flags))
 }
 
 // The permitted flags from the unit's answer, the others as they were; packed. A permit stands at its flag's bit.

@@ -4,12 +4,13 @@ use arithmetic::AluOut;
 use arithmetic::answer;
 use effects::flags_after_apart;
 use effects::is_move;
-use effects::stores_apart;
+use effects::stores;
 use effects::unit_operation;
 use gates::gate_unit;
 use model::Flags;
 use operands::in_memory;
 use operands::operand_b;
+use packed_flags::packed;
 use step_table::Step;
 ghost use mathlib.Core.Path.{_≡_};
 ghost use mathlib.Core.Bool.{cond};
@@ -50,7 +51,11 @@ pub fn compute(mut s: Latches, step: Step) -> Latches
     let flags = s.flags;
     let out = unit_of(word, flags, s.a, s.b);
     let after = flags_after_apart(word, flags, out);
-    let next = chosen(stores_apart(word, flags), in_memory(operand_b(word)), step);
+    let next = chosen(
+        stores(word, packed(flags)),
+        in_memory(operand_b(word)),
+        step,
+    );
     s.flags = after;
     s.result = out.result;
     s.row = next;

@@ -30,7 +30,7 @@ flagsAfter w flags out =
       zero = cond (bit w 10) (out .zero) (flags .zero);
     }
 
--- a move's condition by operation number, on the flags before the instruction; 8 to 15 is always
+-- a move's condition by operation number, on the flags before the instruction; 8 to 15 is always (CR 4: `Conditions` has it line by line)
 abbrev pub conditions : Flags → List Bool
 conditions flags =
     not (flags .carry)  -- 0: no C

@@ -1,8 +1,9 @@
-// The four flags packed into one number, and a move's condition on them: leaves that both engines use.
-mod condition;
+// The four flags packed into one number: leaves that both engines use.
 mod flags;
 
-pub use condition::condition_of;
 pub use flags::carry;
+pub use flags::negative;
+pub use flags::overflow;
 pub use flags::packed;
 pub use flags::unpacked;
+pub use flags::zero;

@@ -4,7 +4,7 @@ use super::fetch::Fetched;
 use super::put::put;
 use super::unit::unit_of;
 use effects::flags_after_packed;
-use effects::stores_packed;
+use effects::stores;
 use registers::step_up;
 ghost use Rattle.step.specs.Steps.{Finishes};
 
@@ -22,7 +22,7 @@ pub fn finish(
     let word = f.word;
     let oa = f.oa;
     let ob = f.ob;
-    let stored = stores_packed(word, flags);
+    let stored = stores(word, flags);
     let out = unit_of(word, flags, f.a, f.b);
     let after = flags_after_packed(word, flags, out);
     let noted = put(stored, f, out.result, pairs, regs, memory, journal);

@@ -13,6 +13,13 @@ const ALL: Flags = Flags {
     zero: true,
 };
 
+const CARRY: Flags = Flags {
+    carry: true,
+    overflow: false,
+    negative: false,
+    zero: false,
+};
+
 /// What the cases did, as of generated ones.
 #[derive(Default)]
 pub struct Tally {
@@ -24,6 +31,7 @@ pub struct Tally {
 pub fn check(rng: &mut Rng, tally: &mut Tally) -> Result<usize, String> {
     let mut programs = borders();
     programs.push(a_put_back());
+    programs.extend((0..1024).map(storing));
     for program in &programs {
         programs::check_program(rng, program, &mut tally.programs)?;
     }
@@ -56,6 +64,7 @@ fn borders() -> Vec<Program> {
                     operation,
                 },
                 [0, a, b, 0, 0, 0, 0, 0],
+                CARRY,
             ));
         }
     }
@@ -71,20 +80,30 @@ fn a_put_back() -> Program {
         is_move: false,
         operation: 3,
     };
-    one_instruction(instruction, [0, 0, 0, 2, 100, 0, 0, 0])
+    one_instruction(instruction, [0, 0, 0, 2, 100, 0, 0, 0], CARRY)
 }
 
-fn one_instruction(instruction: Instruction, registers: [u32; 8]) -> Program {
+/// Whether the result is stored: each operation under both move bits and all
+/// settings of the flags, with B in a register and in memory.
+fn storing(setting: u32) -> Program {
+    let bit = |number: u32| setting >> number & 1 == 1;
+    let [in_register, in_memory] = [Operand::Direct(2), Operand::Indirect(3)];
+    let instruction = Instruction {
+        a: Operand::Direct(1),
+        b: if bit(9) { in_memory } else { in_register },
+        permit: ALL,
+        is_move: bit(8),
+        operation: (setting & 15) as u8,
+    };
+    let flags = Flags::from_array([4, 5, 6, 7].map(bit));
+    one_instruction(instruction, [0, 7, 9, 2, 0, 0, 0, 0], flags)
+}
+
+fn one_instruction(instruction: Instruction, registers: [u32; 8], flags: Flags) -> Program {
     Program {
         memory: vec![instruction.encode(), 9, 0, 0],
         waits: Vec::new(),
-        start: Machine {
-            registers,
-            flags: Flags {
-                carry: true,
-                ..Flags::default()
-            },
-        },
+        start: Machine { registers, flags },
         count: 1,
     }
 }

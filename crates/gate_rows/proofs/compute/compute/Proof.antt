@@ -1,4 +1,5 @@
 use borrow.Author.Needs.{needs}
+use Rattle.model.proofs.Packed.{unpacks}
 use Rattle.gate_rows.proofs.compute.compute.Statement.{statement}
 use Rattle.gate_rows.proofs.compute.compute.Tie as tie
 
@@ -8,8 +9,11 @@ unit-of-requires c κs = search needs
 flags-after-apart-requires : tie.Need-flags-after-apart-requires
 flags-after-apart-requires c κs = search needs
 
-stores-apart-requires : tie.Need-stores-apart-requires
-stores-apart-requires c κs = search needs
+packed-requires : tie.Need-packed-requires
+packed-requires c κs = search needs
+
+stores-requires : tie.Need-stores-requires
+stores-requires c κs = search needs
 
 operand-b-requires : tie.Need-operand-b-requires
 operand-b-requires c κs = search needs
@@ -23,14 +27,17 @@ chosen-requires c κs = search needs
 returns : tie.Need-returns
 returns c =
     λ regs.
-    let apart = c .before .before .before in
+    let decided = c .before .before .before in
+    let packed = decided .before in
     rw (
       c .chosen .ensures,
       c .before .in-memory .ensures,
       c .before .before .operand-b .ensures,
-      apart .stores-apart .ensures,
-      apart .before .flags-after-apart .ensures,
-      apart .before .before .unit-of .ensures,
+      decided .stores .ensures,
+      packed .packed .ensures,
+      unpacks (packed .before .before .before .before .args .s .flags),
+      packed .before .flags-after-apart .ensures,
+      packed .before .before .unit-of .ensures,
     )
 
 pub compute-spec : {M : Type 1} → statement M
@@ -39,7 +46,8 @@ compute-spec =
     (tie.spec
     unit-of-requires
     flags-after-apart-requires
-    stores-apart-requires
+    packed-requires
+    stores-requires
     operand-b-requires
     in-memory-requires
     chosen-requires

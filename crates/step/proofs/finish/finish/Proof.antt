@@ -2,8 +2,8 @@ use borrow.Author.Needs.{needs}
 use Rattle.step.proofs.finish.finish.Statement.{statement}
 use Rattle.step.proofs.finish.finish.Tie as tie
 
-stores-packed-requires : tie.Need-stores-packed-requires
-stores-packed-requires c κs = search needs
+stores-requires : tie.Need-stores-requires
+stores-requires c κs = search needs
 
 unit-of-requires : tie.Need-unit-of-requires
 unit-of-requires c κs = search needs
@@ -30,7 +30,7 @@ returns : tie.Need-returns
 returns c =
     let put = c .before .before .before .before .before .before .before .before in
     let computed = put .before .before .before .before .before .unit-of .ensures in
-    let stored = put .before .before .before .before .before .before .stores-packed .ensures in
+    let stored = put .before .before .before .before .before .before .stores .ensures in
     record {
       result = rw (put .before .before .before .before .flags-after-packed .ensures, computed, put .put .ensures .count, stored);
       registers = rw (c .step-up2 .ensures, c .before .before .step-up .ensures, put .put .ensures .registers, stored, computed);
@@ -42,7 +42,7 @@ pub finish-spec : {M : Type 1} → statement M
 finish-spec =
     tie.close
     (tie.spec
-    stores-packed-requires
+    stores-requires
     unit-of-requires
     flags-after-packed-requires
     put-requires
