@@ -54,8 +54,9 @@ fn in_both(word: u32, before: Flags) -> RunResult {
     let result = run(&mut [word], &[], start, 1);
     let gates = |clocks| gate_run(&mut [word], &[], GateState::start(start), clocks);
     assert_eq!(gates(result.clocks - 1).finished, 0);
-    assert_eq!(gates(result.clocks).finished, 1);
-    assert_eq!(gates(result.clocks).state.machine(), result.machine);
+    let whole = gates(result.clocks);
+    assert_eq!(whole.finished, 1);
+    assert_eq!(whole.state.machine(), result.machine);
     result
 }
 

@@ -6,11 +6,11 @@ use arithmetic::AluOut;
 use model::Flags;
 use packed_flags::packed;
 use packed_flags::unpacked;
+pub use storing::stores;
 ghost use mathlib.Core.Path.{_≡_};
 ghost use mathlib.Core.Bool.{cond};
 ghost use Rattle.model.specs.Alu.{isMove, operation, flagsAfter};
 ghost use Rattle.model.specs.Packed.{packedOf, flagsOf};
-pub use storing::stores;
 
 pub fn is_move(word: u32) -> bool
     ensures { λ r. ⌜ r ≡ isMove word ⌝ }

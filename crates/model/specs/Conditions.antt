@@ -1,4 +1,4 @@
--- CR 4: table 5-1 of report 48, line by line: where an instruction stores its result, by its operation number and its move bit. `stores` is
+-- CR 4: table 5-1 of report 48, line by line: whether an instruction stores its result, by its operation number and its move bit. `stores` is
 -- document 01's sentence; that it says what the table does is one theorem over the sixteen lines.
 use Prim.Native.Nat.{ℕ}
 use mathlib.Core.Path.{_≡_}
@@ -8,7 +8,7 @@ use lib.ListN.{getD}
 use Rattle.model.specs.declared.Flags.{Flags}
 use Rattle.model.specs.Alu.{isMove, operation, stores}
 
--- ---- conditions on the flags before the instruction; where it says `no carry` and `carry` here, the report writes (~c) and (c)
+-- ---- conditions on the flags before the instruction: `no carry` is the report's (~c), `carry` its (c)
 
 abbrev pub always : Flags → Bool
 always flags = true
@@ -30,7 +30,7 @@ no condition flags = not (condition flags)
 
 -- ---- the table
 
--- an operation: its number, and where its result is stored with move bit 0 and with move bit 1
+-- an operation: its number, and whether its result is stored with move bit 0 and with move bit 1
 pub record StoreLine : Type 0 where
   pub number : ℕ
   pub computed : Flags → Bool
@@ -60,10 +60,11 @@ storeTable =
     ∷ storeLine 15 always always  -- 1111: Move; Move
     ∷ []
 
--- the line at the operation of instruction w, and what it says under the move bit; no operation is past the table (`listed`)
+-- past the table, where no operation is (`listed`)
 abbrev pub pastTable : StoreLine
 pastTable = storeLine 16 always always
 
+-- the line at the operation of instruction w, and what it says under w's move bit
 abbrev pub storeLineOf : ℕ → StoreLine
 storeLineOf w = getD storeTable (operation w) pastTable
 
@@ -72,7 +73,7 @@ storesByTable w flags = cond (isMove w) (storeLineOf w .moved flags) (storeLineO
 
 -- ---- the theorem
 
--- the line has the operation's number, and document 01 has the result stored exactly where the line says so
+-- the line has the operation's number, and document 01 has the result stored exactly when the line says so
 pub record ByTable (w : ℕ) (flags : Flags) : Type 0 where
   pub listed : storeLineOf w .number ≡ operation w
   pub stored : stores w flags ≡ storesByTable w flags

@@ -20,6 +20,9 @@ const CARRY: Flags = Flags {
     zero: false,
 };
 
+/// Of storing: operations, settings of the flags, move bits, places of B.
+const SETTINGS: u32 = 16 * 16 * 2 * 2;
+
 /// What the cases did, as of generated ones.
 #[derive(Default)]
 pub struct Tally {
@@ -31,7 +34,7 @@ pub struct Tally {
 pub fn check(rng: &mut Rng, tally: &mut Tally) -> Result<usize, String> {
     let mut programs = borders();
     programs.push(a_put_back());
-    programs.extend((0..1024).map(storing));
+    programs.extend((0..SETTINGS).map(storing));
     for program in &programs {
         programs::check_program(rng, program, &mut tally.programs)?;
     }
@@ -84,19 +87,23 @@ fn a_put_back() -> Program {
 }
 
 /// Whether the result is stored: each operation under both move bits and all
-/// settings of the flags, with B in a register and in memory.
+/// settings of the flags, with B in a register and in memory, 9 in both. No
+/// result is 9.
 fn storing(setting: u32) -> Program {
     let bit = |number: u32| setting >> number & 1 == 1;
-    let [in_register, in_memory] = [Operand::Direct(2), Operand::Indirect(3)];
     let instruction = Instruction {
         a: Operand::Direct(1),
-        b: if bit(9) { in_memory } else { in_register },
+        b: if bit(9) {
+            Operand::Indirect(3)
+        } else {
+            Operand::Direct(2)
+        },
         permit: ALL,
         is_move: bit(8),
         operation: (setting & 15) as u8,
     };
     let flags = Flags::from_array([4, 5, 6, 7].map(bit));
-    one_instruction(instruction, [0, 7, 9, 2, 0, 0, 0, 0], flags)
+    one_instruction(instruction, [0, 7, 9, 1, 0, 0, 0, 0], flags)
 }
 
 fn one_instruction(instruction: Instruction, registers: [u32; 8], flags: Flags) -> Program {
