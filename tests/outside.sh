@@ -1,7 +1,7 @@
 #!/usr/bin/env bash
 # The tests outside Rattle: the folder that shows the reading order; the reference emulator's own; whether the generated files are those of
-# their seeds and sources; the ledger program and the proved calls against the reference emulator on generated cases; the C, Rust and
-# Python bindings.
+# their seeds and sources; both adders, the ledger program and the proved calls against the reference emulator on generated cases; the C,
+# Rust and Python bindings.
 set -euo pipefail
 cd "$(dirname "$0")/.."
 . tests/tools.sh
@@ -20,6 +20,9 @@ cargo test --quiet --release --offline --manifest-path reference/Cargo.toml
 
 echo "outside: generated files are those of their seeds and sources"
 bash tests/generate.sh --check
+
+echo "outside: both adders against the reference emulator's"
+bash tests/adders.sh
 
 echo "outside: the ledger program"
 bash tests/ledger.sh

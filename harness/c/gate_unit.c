@@ -65,6 +65,43 @@ INLINE bool add(const Lines *l, const bool *a, const bool *b, bool *sum, bool *b
     return carry;
 }
 
+// What a range of bits does about carries, whatever comes in.
+typedef struct {
+    bool makes, passes;
+} Range;
+
+static Range range_carry(const bool *x, const bool *y, int width) {
+    if (width == 1) return (Range){And(*x, *y), Xor(*x, *y)};
+    int half = width / 2;
+    Range low = range_carry(x, y, half), high = range_carry(x + half, y + half, half);
+    return (Range){Or(high.makes, And(high.passes, low.makes)), And(high.passes, low.passes)};
+}
+
+INLINE bool carry_past(Range r, bool carry) { return Or(r.makes, And(r.passes, carry)); }
+
+static void range_sum(const bool *x, const bool *y, int width, bool carry, bool *sum) {
+    if (width == 1) {
+        *sum = Xor(Xor(*x, *y), carry);
+        return;
+    }
+    int half = width / 2;
+    range_sum(x, y, half, carry, sum);
+    bool between = carry_past(range_carry(x, y, half), carry);
+    range_sum(x + half, y + half, half, between, sum + half);
+}
+
+// The adder by halves, as `add`.
+INLINE bool add_by_halves(const Lines *l, const bool *a, const bool *b, bool *sum, bool *before) {
+    bool x[32], y[32];
+    for (int i = 0; i < 32; i++) {
+        x[i] = Xor(a[i], l->complement_a);
+        y[i] = Or(And(b[i], l->use_b), l->ones);
+    }
+    range_sum(x, y, 32, l->carry_in, sum);
+    *before = Xor(sum[31], Xor(x[31], y[31]));
+    return carry_past(range_carry(x, y, 32), l->carry_in);
+}
+
 // The result, of whose sources the lines let one through.
 INLINE void choose(const Lines *l, const bool *a, const bool *b, const bool *sum, bool *result) {
     bool top = Or(l->shift_carry, And(l->shift_top, a[31]));
@@ -87,15 +124,25 @@ INLINE uint32_t pack(const bool *bits) {
     return word;
 }
 
-uint32_t gate_unit(uint32_t operation, uint32_t a_word, uint32_t b_word, bool c, bool *carry,
-                   bool *overflow) {
+INLINE uint32_t unit(bool by_halves, uint32_t operation, uint32_t a_word, uint32_t b_word, bool c,
+                     bool *carry, bool *overflow) {
     Lines l = decode(operation, c);
     bool a[32], b[32], sum[32], result[32], before = false;
     unpack(a_word, a);
     unpack(b_word, b);
-    bool out = add(&l, a, b, sum, &before);
+    bool out = by_halves ? add_by_halves(&l, a, b, sum, &before) : add(&l, a, b, sum, &before);
     choose(&l, a, b, sum, result);
     *carry = Or(And(l.adds, Xor(out, l.borrow)), And(l.shifts, a[0]));
     *overflow = And(l.adds, Xor(out, before));
     return pack(result);
+}
+
+uint32_t gate_unit(uint32_t operation, uint32_t a, uint32_t b, bool c, bool *carry,
+                   bool *overflow) {
+    return unit(false, operation, a, b, c, carry, overflow);
+}
+
+uint32_t gate_unit_by_halves(uint32_t operation, uint32_t a, uint32_t b, bool c, bool *carry,
+                             bool *overflow) {
+    return unit(true, operation, a, b, c, carry, overflow);
 }

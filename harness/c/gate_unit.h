@@ -1,4 +1,4 @@
-// The arithmetic unit out of gates on single bits.
+// The arithmetic unit out of gates on single bits, with the ripple adder and with the adder by halves.
 #ifndef GATE_UNIT_H
 #define GATE_UNIT_H
 
@@ -6,5 +6,7 @@
 
 uint32_t gate_unit(uint32_t operation, uint32_t a, uint32_t b, bool c, bool *carry,
                    bool *overflow);
+uint32_t gate_unit_by_halves(uint32_t operation, uint32_t a, uint32_t b, bool c, bool *carry,
+                             bool *overflow);
 
 #endif

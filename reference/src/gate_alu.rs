@@ -3,52 +3,12 @@
 //! As in report 48, selectors stand before the adder as well as behind it, so
 //! that one adder serves operations 0 to 7.
 
+use crate::adders::{ripple_add, Bits};
 use crate::alu::AluResult;
+use crate::gate_primitives::{and, not, or, select, xor};
 use crate::machine::Flags;
 
 const WIDTH: usize = 32;
-
-#[inline]
-fn not(x: bool) -> bool {
-    !x
-}
-
-#[inline]
-fn and(x: bool, y: bool) -> bool {
-    x & y
-}
-
-#[inline]
-fn or(x: bool, y: bool) -> bool {
-    x | y
-}
-
-#[inline]
-fn xor(x: bool, y: bool) -> bool {
-    x ^ y
-}
-
-/// `x` if `choice`, else `y`.
-#[inline]
-fn select(choice: bool, x: bool, y: bool) -> bool {
-    or(and(choice, x), and(not(choice), y))
-}
-
-/// Adds two numbers, lowest bit first, and a carry: sum and carry out.
-pub fn ripple_add<const N: usize>(
-    x: &[bool; N],
-    y: &[bool; N],
-    carry_in: bool,
-) -> ([bool; N], bool) {
-    let mut sum = [false; N];
-    let mut carry = carry_in;
-    for i in 0..N {
-        let half = xor(x[i], y[i]);
-        sum[i] = xor(half, carry);
-        carry = or(and(x[i], y[i]), and(half, carry));
-    }
-    (sum, carry)
-}
 
 /// The control lines decoded from the four bits of the operation.
 struct Control {
@@ -102,8 +62,20 @@ impl Control {
     }
 }
 
-/// The result of operation `operation` (its low four bits), computed by gates.
+/// The result of operation `operation` (its low four bits), computed by gates
+/// with the ripple adder.
 pub fn gate_alu(operation: u8, a: u32, b: u32, carry: bool) -> AluResult {
+    gate_alu_around(ripple_add, operation, a, b, carry)
+}
+
+/// The same around any adder (CR 8: either may sit in the gate machine).
+pub fn gate_alu_around(
+    adder: impl Fn(&Bits<WIDTH>, &Bits<WIDTH>, bool) -> (Bits<WIDTH>, bool),
+    operation: u8,
+    a: u32,
+    b: u32,
+    carry: bool,
+) -> AluResult {
     let a = bits(a);
     let b = bits(b);
     let top = WIDTH - 1;
@@ -111,7 +83,7 @@ pub fn gate_alu(operation: u8, a: u32, b: u32, carry: bool) -> AluResult {
 
     let x = a.map(|bit| xor(bit, control.complement_a));
     let y = b.map(|bit| or(and(bit, control.use_b), control.ones));
-    let (sum, carry_out) = ripple_add(&x, &y, control.carry_in);
+    let (sum, carry_out) = adder(&x, &y, control.carry_in);
     let result = choose_result(&control, &a, &b, &sum);
 
     let carry_into_top = xor(sum[top], xor(x[top], y[top]));
@@ -133,10 +105,10 @@ pub fn gate_alu(operation: u8, a: u32, b: u32, carry: bool) -> AluResult {
 /// The output selectors; exactly one source, or both of 12's, is let through.
 fn choose_result(
     control: &Control,
-    a: &[bool; WIDTH],
-    b: &[bool; WIDTH],
-    sum: &[bool; WIDTH],
-) -> [bool; WIDTH] {
+    a: &Bits<WIDTH>,
+    b: &Bits<WIDTH>,
+    sum: &Bits<WIDTH>,
+) -> Bits<WIDTH> {
     let mut halved = [control.top; WIDTH];
     halved[..WIDTH - 1].copy_from_slice(&a[1..]);
     let mut result = [false; WIDTH];
@@ -153,12 +125,12 @@ fn choose_result(
 }
 
 /// The bits of a word, lowest first.
-fn bits(word: u32) -> [bool; WIDTH] {
+fn bits(word: u32) -> Bits<WIDTH> {
     std::array::from_fn(|i| word >> i & 1 == 1)
 }
 
 /// The inverse of [`bits`].
-fn word(bits: &[bool; WIDTH]) -> u32 {
+fn word(bits: &Bits<WIDTH>) -> u32 {
     let places = bits.iter().enumerate();
     places.fold(0, |word, (i, &bit)| word | u32::from(bit) << i)
 }

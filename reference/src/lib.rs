@@ -5,9 +5,11 @@
 //! FM8502 report they rest on. This library was written from those alone, so that
 //! it can check another emulator.
 
+pub mod adders;
 pub mod alu;
 pub mod file_run;
 pub mod gate_alu;
+mod gate_primitives;
 pub mod gates;
 pub mod generate;
 pub mod image;

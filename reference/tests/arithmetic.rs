@@ -3,8 +3,9 @@
 mod common;
 
 use common::machine;
+use reference::adders::{halves_add, ripple_add, Bits};
 use reference::alu::alu;
-use reference::gate_alu::{gate_alu, ripple_add};
+use reference::gate_alu::{gate_alu, gate_alu_around};
 use reference::rng::Rng;
 use reference::vectors::vectors;
 use reference::{run, Answer};
@@ -17,6 +18,7 @@ fn vectors_of_the_fm9001() {
         for result in [
             alu(v.operation, v.a, v.b, v.carry_in),
             gate_alu(v.operation, v.a, v.b, v.carry_in),
+            gate_alu_around(halves_add, v.operation, v.a, v.b, v.carry_in),
         ] {
             assert_eq!(result.word, v.result, "{} {:X} {:X}", v.operation, v.a, v.b);
             assert_eq!(result.flags.carry, v.carry);
@@ -45,8 +47,12 @@ fn vectors_through_the_interpreter() {
 fn check_units_agree(operation: u8, a: u32, b: u32) {
     for carry in [false, true] {
         let words = alu(operation, a, b, carry);
-        let gates = gate_alu(operation, a, b, carry);
-        assert_eq!(gates, words, "{operation} {a:X} {b:X} {carry}");
+        for gates in [
+            gate_alu(operation, a, b, carry),
+            gate_alu_around(halves_add, operation, a, b, carry),
+        ] {
+            assert_eq!(gates, words, "{operation} {a:X} {b:X} {carry}");
+        }
     }
 }
 
@@ -81,26 +87,93 @@ fn only_the_low_four_bits_of_the_operation_count() {
     }
 }
 
-/// The adder of `N` bits on all its inputs.
-fn check_adder<const N: usize>() {
-    let bits = |number: usize| std::array::from_fn::<bool, N, _>(|i| number >> i & 1 == 1);
+fn bits<const N: usize>(number: u64) -> Bits<N> {
+    std::array::from_fn(|i| number >> i & 1 == 1)
+}
+
+/// Sum and carry out, by numbers.
+fn added<const N: usize>(x: u64, y: u64, carry: bool) -> (Bits<N>, bool) {
+    let total = x + y + u64::from(carry);
+    (bits(total), total >> N == 1)
+}
+
+/// The ripple adder of `N` bits on all its inputs.
+fn check_ripple<const N: usize>() {
     for x in 0..1 << N {
         for y in 0..1 << N {
             for carry in [false, true] {
-                let total = x + y + usize::from(carry);
-                let due = (bits(total), total >> N == 1);
-                assert_eq!(ripple_add(&bits(x), &bits(y), carry), due);
+                assert_eq!(
+                    ripple_add::<N>(&bits(x), &bits(y), carry),
+                    added(x, y, carry)
+                );
             }
         }
     }
 }
 
 #[test]
-fn adders_of_small_widths() {
-    check_adder::<0>();
-    check_adder::<1>();
-    check_adder::<2>();
-    check_adder::<3>();
-    check_adder::<5>();
-    check_adder::<8>();
+fn ripple_adders_of_small_widths() {
+    check_ripple::<0>();
+    check_ripple::<1>();
+    check_ripple::<2>();
+    check_ripple::<3>();
+    check_ripple::<5>();
+    check_ripple::<8>();
+}
+
+/// Both adders of `N` bits give what numbers give, so they give the same.
+fn check_both<const N: usize>(x: u64, y: u64) {
+    for carry in [false, true] {
+        let due = added(x, y, carry);
+        let (x_bits, y_bits) = (bits(x), bits(y));
+        assert_eq!(
+            halves_add::<N>(&x_bits, &y_bits, carry),
+            due,
+            "{x:X} {y:X} {carry}"
+        );
+        assert_eq!(
+            ripple_add::<N>(&x_bits, &y_bits, carry),
+            due,
+            "{x:X} {y:X} {carry}"
+        );
+    }
+}
+
+fn check_all_pairs<const N: usize>() {
+    for x in 0..1 << N {
+        for y in 0..1 << N {
+            check_both::<N>(x, y);
+        }
+    }
+}
+
+/// CR 8: on all pairs of up to 8 bits.
+#[test]
+fn adders_agree_on_all_pairs() {
+    check_all_pairs::<1>();
+    check_all_pairs::<2>();
+    check_all_pairs::<4>();
+    check_all_pairs::<8>();
+}
+
+/// CR 8: on random pairs at 16 and 32 bits. In every other pair y is nearly the
+/// complement of x, so that carries pass through long ranges.
+#[test]
+fn adders_agree_on_random_pairs() {
+    let mut rng = Rng::new(8);
+    for i in 0..100_000 {
+        let x = rng.word();
+        let y = match i % 2 {
+            0 => rng.word(),
+            _ => !x ^ 1 << rng.below(32),
+        };
+        check_both::<16>(u64::from(x & 0xFFFF), u64::from(y & 0xFFFF));
+        check_both::<32>(u64::from(x), u64::from(y));
+    }
+}
+
+#[test]
+#[should_panic(expected = "a width of 12 cannot be halved to 1")]
+fn the_adder_by_halves_takes_powers_of_two() {
+    halves_add::<12>(&[false; 12], &[false; 12], false);
 }

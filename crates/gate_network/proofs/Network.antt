@@ -1,6 +1,6 @@
 -- The unit's network answers as the definition does, at every width of k + 1 bits and with any adder.
 use Prim.Native.Nat.{ℕ, suc, _+_, _-_, _*_, _/_, _%_, _^_, _<_}
-use mathlib.Core.Path.{_≡_, refl, sym, ap, _∙_}
+use mathlib.Core.Path.{_≡_, refl, sym, ap, subst, _∙_}
 use mathlib.Core.Bool.{Bool, true, false, not, _&&_, _||_, xor, or-false}
 use mathlib.Core.List.{List}
 use native.Mathlib.Omega.{arith}
@@ -14,10 +14,12 @@ use Rattle.arithmetic.proofs.Integers.{weight}
 use Rattle.arithmetic.proofs.Sums.{same-answer, none-and, and-none}
 use Rattle.gate_network.specs.declared.Lines.{Lines}
 use Rattle.gate_network.specs.Gates.{value, bitsOf, rippleSum, rippleCarry, linesOf, firstRow, secondRow, carryOut, anyOf}
-use Rattle.gate_network.specs.Theorems.{Adds, outOf, UnitAtEveryWidth, RippleUnit}
+use Rattle.gate_network.specs.Halves.{halvesSum, halvesCarry}
+use Rattle.gate_network.specs.Theorems.{Adds, outOf, UnitAtEveryWidth, UnitAround, RippleUnit, HalvesUnit}
 use Rattle.gate_network.proofs.Worth.{ripple-adds, value-below, value-top, value-low, value-none, length-bits, value-bits}
 use Rattle.gate_network.proofs.RowWorth.{pick-first, pick-second, first-length, table-value, none-digits, a-digits, b-digits, and-digits, or-digits, xor-digits, not-value}
 use Rattle.gate_network.proofs.RowWorth.{shift-value, second-length, second-value, second-turned}
+use Rattle.gate_network.proofs.Joined.{halves-add}
 use Rattle.gate_network.proofs.Adders.{flagged, adder-sum, adder-difference}
 
 -- a shift puts the bit that it drops into the carry
@@ -110,9 +112,19 @@ unit-at-every-width k a b s d c la lb true false true true h = plain k _ a b s d
 unit-at-every-width k a b s d c la lb false true true true h = plain k _ a b s d la lb h refl refl refl (complemented k _ a b s d la lb h refl refl refl refl refl)
 unit-at-every-width k a b s d c la lb true true true true h = plain k _ a b s d la lb h refl refl refl (table-value _ _ refl a-digits a b (lb ∙ sym la))
 
+-- ---- around the two adders
+
+-- an adder that adds rows of k + 1 bits will do
+around : (k : ℕ) (sum : List Bool → List Bool → Bool → List Bool) (carry : List Bool → List Bool → Bool → Bool)
+    → ((p q : List Bool) (f : Bool) → length p ≡ suc k → length q ≡ suc k → Adds p q f (sum p q f) (carry p q f)) → UnitAround k sum carry
+around k sum carry h a b c la lb o0 o1 o2 o3 =
+    unit-at-every-width k a b _ _ c la lb o0 o1 o2 o3 (h _ _ _ (first-length _ a b (lb ∙ sym la) ∙ la) (second-length _ a ∙ la))
+
 pub ripple-unit : RippleUnit
-ripple-unit k a b c la lb o0 o1 o2 o3 =
-    unit-at-every-width k a b _ _ c la lb o0 o1 o2 o3 (ripple-adds _ _ _ (second-length _ a ∙ sym (first-length _ a b (lb ∙ sym la))))
+ripple-unit k = around k rippleSum rippleCarry (λ p q f lp lq. ripple-adds p q f (lq ∙ sym lp))
+
+pub halves-unit : HalvesUnit
+halves-unit n k e = around k (halvesSum n 0) (halvesCarry n 0) (λ p q f lp lq. halves-add n p q f (lp ∙ e) (lq ∙ e))
 
 -- ---- words in, a word out
 
@@ -124,7 +136,7 @@ steered n c sign = linesOf (eqb (n % 2) 1) (eqb (n / 2 % 2) 1) (eqb (n / 4 % 2) 
 pub gate-by : (n a b : ℕ) (c : Bool) {r : ℕ} {sign low d : Bool} {l : Lines} {p q s : List Bool} → a < 2 ^ 32 → b < 2 ^ 32
     → sign ≡ getD (bitsOf 32 a) 31 false → l ≡ steered n c sign
     → (p ≡ firstRow l (bitsOf 32 a) (bitsOf 32 b)) × (q ≡ secondRow l (bitsOf 32 a))
-    → (d ≡ rippleCarry p q (l .carry)) × (s ≡ rippleSum p q (l .carry))
+    → Adds p q (l .carry) s d
     → r ≡ value s → low ≡ getD (bitsOf 32 a) 0 false
     → {z : Bool} → z ≡ anyOf s
     → _≡_ {A = AluOut}
@@ -137,7 +149,7 @@ pub gate-by : (n a b : ℕ) (c : Bool) {r : ℕ} {sign low d : Bool} {l : Lines}
     })
     (aluOf n a b c)
 unfolding aluOf
-gate-by n a b c {r} {sign} {low} {d} {l} {p} {q} {s} ha hb hsign hl (hp, hq) (hd, hs) hr hlow hz =
+gate-by n a b c {r} {sign} {low} {d} {l} {p} {q} {s} ha hb hsign hl (hp, hq) added hr hlow hz =
     (λ i. record {
       result = hr i;
       carry = carryOut l (hlow i) d;
@@ -145,8 +157,8 @@ gate-by n a b c {r} {sign} {low} {d} {l} {p} {q} {s} ha hb hsign hl (hp, hq) (hd
       negative = getD s 31 false;
       zero = not (hz i);
     })
-    ∙ (λ i. outOf 31 (el i) x y (sum i) (out i))
-    ∙ ripple-unit 31 x y c (length-bits 32 a) (length-bits 32 b) (eqb (n % 2) 1) (eqb (n / 2 % 2) 1) (eqb (n / 4 % 2) 1) (eqb (n / 8 % 2) 1)
+    ∙ (λ i. outOf 31 (el i) x y s d)
+    ∙ unit-at-every-width 31 x y s d c (length-bits 32 a) (length-bits 32 b) (eqb (n % 2) 1) (eqb (n / 2 % 2) 1) (eqb (n / 4 % 2) 1) (eqb (n / 8 % 2) 1) rows
     ∙ (λ i. aluAt 31 (low-nibble n i) (value-bits 32 a ha i) (value-bits 32 b hb i) c)
   where
     x : List Bool
@@ -158,8 +170,7 @@ gate-by n a b c {r} {sign} {low} {d} {l} {p} {q} {s} ha hb hsign hl (hp, hq) (hd
     el : l ≡ steered n c (getD x 31 false)
     el = hl ∙ ap (steered n c) hsign
 
-    sum : s ≡ rippleSum (firstRow (el 1) x y) (secondRow (el 1) x) (el 1 .carry)
-    sum = hs ∙ (λ i. rippleSum (hp i) (hq i) (l .carry)) ∙ (λ i. rippleSum (firstRow (el i) x y) (secondRow (el i) x) (el i .carry))
-
-    out : d ≡ rippleCarry (firstRow (el 1) x y) (secondRow (el 1) x) (el 1 .carry)
-    out = hd ∙ (λ i. rippleCarry (hp i) (hq i) (l .carry)) ∙ (λ i. rippleCarry (firstRow (el i) x y) (secondRow (el i) x) (el i .carry))
+    rows : Adds (firstRow (el 1) x y) (secondRow (el 1) x) (el 1 .carry) s d
+    rows =
+        subst (λ (m : Lines). Adds (firstRow m x y) (secondRow m x) (m .carry) s d) el
+        (subst (λ (r : List Bool). Adds (firstRow l x y) r (l .carry) s d) hq (subst (λ (r : List Bool). Adds r q (l .carry) s d) hp added))

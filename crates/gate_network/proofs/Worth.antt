@@ -14,7 +14,7 @@ use Rattle.arithmetic.specs.Words.{asNumber, topOf}
 use Rattle.arithmetic.proofs.Bits.{three, bit-le, digit-bit, bit-digit, low-bit}
 use Rattle.arithmetic.proofs.Integers.{same-leb}
 use Rattle.gate_network.specs.Gates.{value, bitsOf, fullSum, fullCarry, rippleSum, rippleCarry, anyOf}
-use Rattle.gate_network.specs.Theorems.{RippleAdds}
+use Rattle.gate_network.specs.Theorems.{Adds, RippleAdds}
 
 -- one more place doubles what a bit is worth
 double : (b n : ℕ) → b * 2 ^ suc n ≡ 2 * (b * 2 ^ n)
@@ -36,6 +36,10 @@ ripple-adds (x ∷ a) (y ∷ b) c e =
     let f = full-value x y c in
     let d = double (asNumber (rippleCarry a b (fullCarry x y c))) (length a) in
     record { long = ap suc (h .long); worth = omega (arith, h .worth) }
+
+-- what is equal to a sum and a carry is one
+pub adds-alike : {p q : List Bool} {f d d′ : Bool} {s s′ : List Bool} → Adds p q f s d → (d′ ≡ d) × (s′ ≡ s) → Adds p q f s′ d′
+adds-alike h (ed, es) = rw (ed, es) h
 
 -- ---- bounds, the top bit, the lowest bit
 

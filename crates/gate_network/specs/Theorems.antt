@@ -1,5 +1,5 @@
--- What holds of the adder and of the unit at every width. Document 01, "Clocks": "The arithmetic unit uses only one- and two-input
--- gates on single bits, with a ripple adder shown right for all widths together."
+-- What holds of the adders and of the unit at every width. Document 01, "Clocks": "The arithmetic unit uses only one- and two-input
+-- gates on single bits, with a ripple adder shown right for all widths together." Document 02, CR 8, for the adder by halves.
 use Prim.Native.Nat.{ℕ, suc, _+_, _*_, _^_}
 use mathlib.Core.Path.{_≡_}
 use mathlib.Core.Bool.{Bool, false, not}
@@ -10,6 +10,7 @@ use Rattle.arithmetic.specs.Words.{asNumber, nibble, overflowOf}
 use Rattle.arithmetic.specs.Alu.{aluAt}
 use Rattle.gate_network.specs.declared.Lines.{Lines}
 use Rattle.gate_network.specs.Gates.{value, rippleSum, rippleCarry, firstRow, secondRow, linesOf, carryOut, anyOf}
+use Rattle.gate_network.specs.Halves.{halvesSum, halvesCarry}
 
 -- ---- the adder ("a ripple adder shown right for all widths together")
 
@@ -21,6 +22,21 @@ pub record Adds (p q : List Bool) (f : Bool) (s : List Bool) (d : Bool) : Type 0
 -- the ripple adder adds rows of any one width
 abbrev pub RippleAdds : Type 0
 RippleAdds = (p q : List Bool) (f : Bool) → length q ≡ length p → Adds p q f (rippleSum p q f) (rippleCarry p q f)
+
+-- ---- the adder by halves (CR 8: "For each width that is a power of two up to 32 the two must give the same sum and carry on all inputs, by
+-- an argument over the width"; the argument is over the exponent n, so there is no bound)
+
+pub record AsRipple (n : ℕ) (p q : List Bool) (f : Bool) : Type 0 where
+  pub sum : halvesSum n 0 p q f ≡ rippleSum p q f
+  pub carry : halvesCarry n 0 p q f ≡ rippleCarry p q f
+
+abbrev pub HalvesAsRipple : Type 0
+HalvesAsRipple = (n : ℕ) (p q : List Bool) (f : Bool) → length p ≡ 2 ^ n → length q ≡ 2 ^ n → AsRipple n p q f
+
+-- so it adds
+abbrev pub HalvesAdd : Type 0
+HalvesAdd =
+    (n : ℕ) (p q : List Bool) (f : Bool) → length p ≡ 2 ^ n → length q ≡ 2 ^ n → Adds p q f (halvesSum n 0 p q f) (halvesCarry n 0 p q f)
 
 -- ---- the unit ("The arithmetic unit uses only one- and two-input gates on single bits")
 
@@ -44,10 +60,18 @@ UnitAtEveryWidth =
     Adds (firstRow l a b) (secondRow l a) (l .carry) s d
     → outOf k l a b s d ≡ aluAt k (nibble o3 o2 o1 o0) (value a) (value b) c
 
--- so it does around the ripple adder
-abbrev pub RippleUnit : Type 0
-RippleUnit =
-    (k : ℕ) (a b : List Bool) (c : Bool) → length a ≡ suc k → length b ≡ suc k → (o0 o1 o2 o3 : Bool)
+-- so it does around an adder that is given by its sum and its carry, at a width of k + 1 bits
+abbrev pub UnitAround : ℕ → (sum : List Bool → List Bool → Bool → List Bool) → (carry : List Bool → List Bool → Bool → Bool) → Type 0
+UnitAround k sum carry =
+    (a b : List Bool) (c : Bool) → length a ≡ suc k → length b ≡ suc k → (o0 o1 o2 o3 : Bool)
     → let l = linesOf o0 o1 o2 o3 c (getD a k false) in
-    outOf k l a b (rippleSum (firstRow l a b) (secondRow l a) (l .carry)) (rippleCarry (firstRow l a b) (secondRow l a) (l .carry))
+    outOf k l a b (sum (firstRow l a b) (secondRow l a) (l .carry)) (carry (firstRow l a b) (secondRow l a) (l .carry))
     ≡ aluAt k (nibble o3 o2 o1 o0) (value a) (value b) c
+
+-- around the ripple adder at every width
+abbrev pub RippleUnit : Type 0
+RippleUnit = (k : ℕ) → UnitAround k rippleSum rippleCarry
+
+-- around the adder by halves at every width that is a power of two
+abbrev pub HalvesUnit : Type 0
+HalvesUnit = (n k : ℕ) → suc k ≡ 2 ^ n → UnitAround k (halvesSum n 0) (halvesCarry n 0)

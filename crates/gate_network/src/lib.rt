@@ -1,5 +1,6 @@
 // The arithmetic unit as a network of gates, and that it answers as the crate arithmetic defines at every width; no code. The theorems:
-// specs/Theorems.antt, proved in proofs/Worth.antt (the adder) and proofs/Network.antt (the unit).
+// specs/Theorems.antt, proved in proofs/Worth.antt (the ripple adder), proofs/Joined.antt (the adder by halves) and proofs/Network.antt (the
+// unit).
 
 // The control lines: what steers the adder's rows and the flags.
 pub struct Lines {
@@ -17,4 +18,12 @@ pub struct Lines {
     pub turn: bool,
     // The adder's carry in.
     pub carry: bool,
+}
+
+// What a range of bits does about carries, whatever comes in (CR 8): in other words, whether it generates and propagates one.
+pub struct RangeCarry {
+    // It gives one out by itself.
+    pub makes: bool,
+    // It gives one out where one comes in.
+    pub passes: bool,
 }

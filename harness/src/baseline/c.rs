@@ -1,6 +1,8 @@
 //! The baselines in C. They have the library's calls without the lengths that the
 //! library checks, and refuse nothing.
 
+use super::gate_unit::Answer;
+
 mod raw {
     extern "C" {
         pub fn baseline_run(
@@ -42,6 +44,22 @@ mod raw {
             machine: *const u32,
             out: *mut u8,
             result: *mut u64,
+        ) -> u32;
+        pub fn gate_unit(
+            operation: u32,
+            a: u32,
+            b: u32,
+            carry: bool,
+            carry_out: *mut bool,
+            overflow: *mut bool,
+        ) -> u32;
+        pub fn gate_unit_by_halves(
+            operation: u32,
+            a: u32,
+            b: u32,
+            carry: bool,
+            carry_out: *mut bool,
+            overflow: *mut bool,
         ) -> u32;
     }
 }
@@ -137,4 +155,17 @@ pub fn image_write(memory: &[u32], machine: &[u32], out: &mut [u8], result: &mut
             result.as_mut_ptr(),
         )
     }
+}
+
+pub fn gate_unit(operation: u32, a: u32, b: u32, carry: bool) -> Answer {
+    let (mut carry_out, mut overflow) = (false, false);
+    let word = unsafe { raw::gate_unit(operation, a, b, carry, &mut carry_out, &mut overflow) };
+    (word, carry_out, overflow)
+}
+
+pub fn gate_unit_by_halves(operation: u32, a: u32, b: u32, carry: bool) -> Answer {
+    let (mut carry_out, mut overflow) = (false, false);
+    let word =
+        unsafe { raw::gate_unit_by_halves(operation, a, b, carry, &mut carry_out, &mut overflow) };
+    (word, carry_out, overflow)
 }

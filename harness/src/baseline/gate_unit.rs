@@ -1,4 +1,5 @@
-//! The arithmetic unit out of gates on single bits: result, carry, overflow.
+//! The arithmetic unit out of gates on single bits: result, carry, overflow. It has
+//! the ripple adder in the gate machine, and may have the adder by halves.
 
 fn not(x: bool) -> bool {
     !x
@@ -73,7 +74,27 @@ impl Lines {
     }
 }
 
-pub fn gate_unit(operation: u32, a: u32, b: u32, carry: bool) -> (u32, bool, bool) {
+pub fn gate_unit(operation: u32, a: u32, b: u32, carry: bool) -> Answer {
+    unit(add, operation, a, b, carry)
+}
+
+pub fn gate_unit_by_halves(operation: u32, a: u32, b: u32, carry: bool) -> Answer {
+    unit(add_by_halves, operation, a, b, carry)
+}
+
+pub type Answer = (u32, bool, bool);
+
+/// Sum, carry out, and the carry into the top bit.
+type Sum = ([bool; 32], bool, bool);
+
+#[inline]
+fn unit(
+    add: impl Fn(&Lines, &[bool; 32], &[bool; 32]) -> Sum,
+    operation: u32,
+    a: u32,
+    b: u32,
+    carry: bool,
+) -> Answer {
     let lines = Lines::decode(operation, carry);
     let (a, b) = (unpack(a), unpack(b));
     let (sum, carry_out, carry_in_top) = add(&lines, &a, &b);
@@ -100,8 +121,8 @@ pub fn gate_unit(operation: u32, a: u32, b: u32, carry: bool) -> (u32, bool, boo
     )
 }
 
-/// The ripple adder: sum, carry out, and the carry into the top bit.
-fn add(lines: &Lines, a: &[bool; 32], b: &[bool; 32]) -> ([bool; 32], bool, bool) {
+/// The ripple adder.
+fn add(lines: &Lines, a: &[bool; 32], b: &[bool; 32]) -> Sum {
     let mut sum = [false; 32];
     let mut carry = lines.carry_in;
     let mut before = carry;
@@ -114,6 +135,55 @@ fn add(lines: &Lines, a: &[bool; 32], b: &[bool; 32]) -> ([bool; 32], bool, bool
         carry = or(and(x, y), and(half, carry));
     }
     (sum, carry, before)
+}
+
+/// The adder by halves.
+fn add_by_halves(lines: &Lines, a: &[bool; 32], b: &[bool; 32]) -> Sum {
+    let x = a.map(|bit| xor(bit, lines.complement_a));
+    let y = b.map(|bit| or(and(bit, lines.use_b), lines.ones));
+    let mut sum = [false; 32];
+    range_sum(&x, &y, lines.carry_in, &mut sum);
+    let carry = range_carry(&x, &y).past(lines.carry_in);
+    (sum, carry, xor(sum[31], xor(x[31], y[31])))
+}
+
+/// What a range of bits does about carries, whatever comes in.
+struct Range {
+    makes: bool,
+    passes: bool,
+}
+
+impl Range {
+    fn past(self, carry: bool) -> bool {
+        or(self.makes, and(self.passes, carry))
+    }
+}
+
+fn range_carry(x: &[bool], y: &[bool]) -> Range {
+    if x.len() == 1 {
+        return Range {
+            makes: and(x[0], y[0]),
+            passes: xor(x[0], y[0]),
+        };
+    }
+    let half = x.len() / 2;
+    let low = range_carry(&x[..half], &y[..half]);
+    let high = range_carry(&x[half..], &y[half..]);
+    Range {
+        makes: or(high.makes, and(high.passes, low.makes)),
+        passes: and(high.passes, low.passes),
+    }
+}
+
+fn range_sum(x: &[bool], y: &[bool], carry: bool, sum: &mut [bool]) {
+    if x.len() == 1 {
+        sum[0] = xor(xor(x[0], y[0]), carry);
+        return;
+    }
+    let half = x.len() / 2;
+    range_sum(&x[..half], &y[..half], carry, &mut sum[..half]);
+    let between = range_carry(&x[..half], &y[..half]).past(carry);
+    range_sum(&x[half..], &y[half..], between, &mut sum[half..]);
 }
 
 fn unpack(word: u32) -> [bool; 32] {

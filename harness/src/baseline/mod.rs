@@ -1,9 +1,9 @@
 //! Emulators to measure the proved one against. All have the library's calls on
 //! words; only the reference emulator refuses bad input.
 
-mod c;
+pub mod c;
 mod gate_machine;
-mod gate_unit;
+pub mod gate_unit;
 mod image;
 mod interpreter;
 mod of_reference;

@@ -7,6 +7,7 @@ pub mod images;
 mod measure;
 pub mod runs;
 mod table;
+pub mod units;
 mod workload;
 
 /// How much is measured.

@@ -11,10 +11,15 @@
 //! after k single clocks, each on the state and memory that the last one left.
 //! ANSWER is the last clock's, `ran` or `refused N`, or `ran` if k is 0; a refused
 //! clock leaves the state and the memory as they were, and finishes nothing.
+//!
+//! `unit result cvnz result cvnz`
+//!
+//! by the arithmetic unit with the ripple adder, then with the adder by halves.
 
 pub mod cases;
 pub mod input;
 pub mod output;
+pub mod units;
 
 use reference::GateState;
 

@@ -11,11 +11,8 @@ abbrev μ-loop : tie.MeasureT-loop
 loop-holds : tie.Need-loop-holds Inv-loop μ-loop
 loop-holds c = search needs
 
-next-word-requires : tie.Need-next-word-requires Inv-loop μ-loop
-next-word-requires c κs = search needs
-
-state-case-requires : tie.Need-state-case-requires Inv-loop μ-loop
-state-case-requires c κs = search needs
+next-case-requires : tie.Need-next-case-requires Inv-loop μ-loop
+next-case-requires c κs = search needs
 
 sub-left : tie.Need-sub-left Inv-loop μ-loop
 sub-left c = search needs
@@ -39,8 +36,7 @@ main-spec =
     Inv-loop
     μ-loop
     loop-holds
-    next-word-requires
-    state-case-requires
+    next-case-requires
     sub-left
     loop-less
     loop-again

@@ -6,8 +6,8 @@ use native.Mathlib.Omega.{arith}
 use lib.ListN.{length, take, drop, length-set}
 use Rattle.gate_network.specs.Gates.{rippleSum, rippleCarry}
 use Rattle.gates.proofs.Turns.{turn, all-stored, ripple-sum-step, ripple-carry-step, ripple-sum-end, ripple-carry-end}
-use Rattle.gates.proofs.adder.ripple.Statement.{statement}
-use Rattle.gates.proofs.adder.ripple.Tie as tie
+use Rattle.gates.proofs.ripple_adder.ripple.Statement.{statement}
+use Rattle.gates.proofs.ripple_adder.ripple.Tie as tie
 
 abbrev Inv-loop : tie.InvT-loop
 Inv-loop a b carry out₀ c₀ i₀ out c i =
