@@ -142,7 +142,8 @@ uint32_t gate_unit(uint32_t operation, uint32_t a, uint32_t b, bool c, bool *car
     return unit(false, operation, a, b, c, carry, overflow);
 }
 
-uint32_t gate_unit_by_halves(uint32_t operation, uint32_t a, uint32_t b, bool c, bool *carry,
-                             bool *overflow) {
-    return unit(true, operation, a, b, c, carry, overflow);
+uint32_t gate_unit_with(bool by_halves, uint32_t operation, uint32_t a, uint32_t b, bool c,
+                        bool *carry, bool *overflow) {
+    if (by_halves) return unit(true, operation, a, b, c, carry, overflow);
+    return unit(false, operation, a, b, c, carry, overflow);
 }

@@ -20,7 +20,7 @@ pub fn ripple_add<const N: usize>(x: &Bits<N>, y: &Bits<N>, carry_in: bool) -> (
 /// The same by the adder of the new card (CR 8), for widths that are powers of
 /// two: two adders of half the width, each made the same way down to one bit.
 pub fn halves_add<const N: usize>(x: &Bits<N>, y: &Bits<N>, carry_in: bool) -> (Bits<N>, bool) {
-    assert!(N.is_power_of_two(), "a width of {N} cannot be halved to 1");
+    assert!(N.is_power_of_two(), "a width of {N} is no power of two");
     let mut sum = [false; N];
     join_halves(x, y, carry_in, &mut sum);
     (sum, Range::of(x, y).carry_out(carry_in))
@@ -30,7 +30,7 @@ pub fn halves_add<const N: usize>(x: &Bits<N>, y: &Bits<N>, carry_in: bool) -> (
 struct Range {
     /// It gives one out even if none comes in.
     makes: bool,
-    /// It gives one out if one comes in.
+    /// Each of its places gives one out if one comes in.
     passes: bool,
 }
 

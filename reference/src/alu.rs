@@ -3,7 +3,7 @@
 use crate::machine::Flags;
 
 /// A result and the flags it would set if all were permitted.
-#[derive(Clone, Copy, Debug, PartialEq, Eq)]
+#[derive(Clone, Copy, Debug, Default, PartialEq, Eq)]
 pub struct AluResult {
     pub word: u32,
     pub flags: Flags,

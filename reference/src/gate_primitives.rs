@@ -1,4 +1,4 @@
-//! The gates: one or two inputs, each a single bit.
+//! The gates: one or two inputs, each a single bit; and a selector made of them.
 
 #[inline]
 pub fn not(x: bool) -> bool {

@@ -1,6 +1,7 @@
 //! Seeded generators of cases for comparing emulators.
 
 pub mod image;
+pub mod pair;
 pub mod program;
 pub mod state;
 

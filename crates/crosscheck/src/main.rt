@@ -1,11 +1,12 @@
-// Runs what no call of the library reaches by itself, on cases that it reads, and prints what comes out. The file `stdout` holds what an
-// independent emulator made of the same cases; `stdin` holds the cases, as words of four bytes, lowest first. The first tells the kind:
+// Clocks on a gate state that is lent, one at a time, and the arithmetic unit of gates with each adder, on cases that are read; what comes out is
+// printed. The file `stdout` holds what an independent emulator made of the same cases; `stdin` holds the cases, as words of four bytes, lowest
+// first. The first word of a case tells its kind:
 //   1, M, memory, W, waits, r0..r7, flags, row, instruction, address, a, b, result, position, begun, left, k
-//     lends a gate state to `lent_clock::clock_lent`, k clocks one at a time. A wait takes a word; flags are one number, C 8, V 4, N 2, Z 1
+//     k clocks (`lent_clock::clock_once`). A wait takes a word; flags are one number, C 8, V 4, N 2, Z 1
 //   2, operation, a, b, carry
-//     asks the arithmetic unit of gates with each adder (`gates::unit_around`), the ripple adder first
+//     one operation (`gates::unit_around`), with the ripple adder and with the adder by halves
 //   3, adder, n
-//     runs n operations with one adder (0 ripple, 1 by halves), each on what those before it gave, to be timed from outside
+//     n operations with one adder (0 ripple, 1 by halves), one after the other, to be timed from outside
 // Any other kind ends the program, as the input's end does.
 mod input;
 mod lending;
@@ -15,7 +16,7 @@ mod unit;
 
 const MOST_CASES: u32 = 1_048_576;
 
-// Whether there was a case.
+// Runs the next case. Whether there was one.
 fn next_case() -> bool {
     match input::next_word() {
         1 => state::state_case(),

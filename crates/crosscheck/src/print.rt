@@ -14,7 +14,7 @@ pub fn print_number(number: u64) {
     io::print_decimal(STDOUT_FILENO, number);
 }
 
-fn print_word(word: u32) {
+pub fn print_word(word: u32) {
     let mut item = [b' '; 9];
     put_hexadecimal(&mut item, 1, word);
     print(&item);

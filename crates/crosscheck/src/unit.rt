@@ -1,18 +1,21 @@
 // The arithmetic unit of gates around each of its adders.
+use super::input::next_number;
 use super::input::next_word;
 use super::print::print;
 use super::print::print_flags;
-use super::print::print_words;
+use super::print::print_word;
 use arithmetic::AluOut;
 use gates::Adder;
 use gates::unit_around;
 use model::Flags;
 
+const MOST_OPERATIONS: usize = 16_777_216;
+
 // Odd, so that all words come.
 const STRIDE: u32 = 2_654_435_769;
 
 fn print_out(out: AluOut) {
-    print_words(&[out.result], 1);
+    print_word(out.result);
     print_flags(Flags {
         carry: out.carry,
         overflow: out.overflow,
@@ -33,7 +36,7 @@ pub fn unit_case() {
     print(b"\n");
 }
 
-// The first is the ripple adder, any other the one by halves.
+// 0 is the ripple adder, any other number the adder by halves.
 fn adder_of(number: u32) -> Adder {
     if number == 0 {
         Adder::Ripple
@@ -43,7 +46,7 @@ fn adder_of(number: u32) -> Adder {
 }
 
 // The sixteen operations over and over, each on a new word, the last result and the last carry.
-fn operate(adder: u32, count: u32) -> AluOut {
+fn operate(adder: u32, count: usize) -> AluOut {
     let mut out = AluOut {
         result: 0,
         carry: false,
@@ -64,7 +67,7 @@ fn operate(adder: u32, count: u32) -> AluOut {
 // ran RESULT cvnz
 pub fn sequence_case() {
     let adder = next_word();
-    let count = next_word();
+    let count = next_number(MOST_OPERATIONS);
     print(b"ran");
     print_out(operate(adder, count));
     print(b"\n");

@@ -1,5 +1,5 @@
 pub mod Worth
-pub mod Joined
+pub mod Halves
 mod RowWorth
 mod Adders
 pub mod Network

@@ -15,11 +15,11 @@ use Rattle.arithmetic.proofs.Sums.{same-answer, none-and, and-none}
 use Rattle.gate_network.specs.declared.Lines.{Lines}
 use Rattle.gate_network.specs.Gates.{value, bitsOf, rippleSum, rippleCarry, linesOf, firstRow, secondRow, carryOut, anyOf}
 use Rattle.gate_network.specs.Halves.{halvesSum, halvesCarry}
-use Rattle.gate_network.specs.Theorems.{Adds, outOf, UnitAtEveryWidth, UnitAround, RippleUnit, HalvesUnit}
+use Rattle.gate_network.specs.Theorems.{Adds, AddsAt, outOf, UnitAtEveryWidth, UnitAround, RippleUnit, HalvesUnit}
 use Rattle.gate_network.proofs.Worth.{ripple-adds, value-below, value-top, value-low, value-none, length-bits, value-bits}
 use Rattle.gate_network.proofs.RowWorth.{pick-first, pick-second, first-length, table-value, none-digits, a-digits, b-digits, and-digits, or-digits, xor-digits, not-value}
 use Rattle.gate_network.proofs.RowWorth.{shift-value, second-length, second-value, second-turned}
-use Rattle.gate_network.proofs.Joined.{halves-add}
+use Rattle.gate_network.proofs.Halves.{halves-add}
 use Rattle.gate_network.proofs.Adders.{flagged, adder-sum, adder-difference}
 
 -- a shift puts the bit that it drops into the carry
@@ -83,9 +83,9 @@ module _ (k : ℕ) (l : Lines) (a b s : List Bool) (d : Bool) (la : length a ≡
   complemented : l .shift ≡ false → l .t00 ≡ true → l .t01 ≡ true → l .t10 ≡ false → l .t11 ≡ false → value (firstRow l a b) ≡ 2 ^ suc k - 1 - value a
   complemented e p q r u = omega (arith, not-value l e p q r u a b same ∙ ap (λ (n : ℕ). 2 ^ n) la)
 
-  halves : {t : Bool} → l .shift ≡ true → l .turn ≡ false → l .second ≡ false → l .carry ≡ false → l .top ≡ t → outOf k l a b s d ≡ halvedOf k t (value a)
+  shifted : {t : Bool} → l .shift ≡ true → l .turn ≡ false → l .second ≡ false → l .carry ≡ false → l .top ≡ t → outOf k l a b s d ≡ halvedOf k t (value a)
   unfolding halvedOf
-  halves e t z g p =
+  shifted e t z g p =
       plain t z g (shift-value k l a b e la lb)
       ∙ same-answer k (ap (λ (t : Bool). value a / 2 + asNumber t * 2 ^ k) p) ((λ j. (e j && getD a 0 false) || false) ∙ or-false (getD a 0 false) ∙ sym (value-low a)) refl
 
@@ -103,9 +103,9 @@ unit-at-every-width k a b s d c la lb false false true false h = differences k _
 unit-at-every-width k a b s d c la lb true false true false h = differences k _ a b s d la lb h true refl refl refl (table-value _ _ refl a-digits a b (lb ∙ sym la))
 unit-at-every-width k a b s d c la lb false true true false h = differences k _ a b s d la lb h c refl refl (xor-true c) (table-value _ _ refl b-digits a b (lb ∙ sym la))
 unit-at-every-width k a b s d c la lb true true true false h = differences k _ a b s d la lb h false refl refl refl (table-value _ _ refl b-digits a b (lb ∙ sym la))
-unit-at-every-width k a b s d c la lb false false false true h = halves k _ a b s d la lb h refl refl refl refl (pick-first c (getD a k false))
-unit-at-every-width k a b s d c la lb true false false true h = halves k _ a b s d la lb h refl refl refl refl (pick-second c (getD a k false) ∙ value-top k a la)
-unit-at-every-width k a b s d c la lb false true false true h = halves k _ a b s d la lb h refl refl refl refl refl
+unit-at-every-width k a b s d c la lb false false false true h = shifted k _ a b s d la lb h refl refl refl refl (pick-first c (getD a k false))
+unit-at-every-width k a b s d c la lb true false false true h = shifted k _ a b s d la lb h refl refl refl refl (pick-second c (getD a k false) ∙ value-top k a la)
+unit-at-every-width k a b s d c la lb false true false true h = shifted k _ a b s d la lb h refl refl refl refl refl
 unit-at-every-width k a b s d c la lb true true false true h = plain k _ a b s d la lb h refl refl refl (table-value _ _ refl xor-digits a b (lb ∙ sym la))
 unit-at-every-width k a b s d c la lb false false true true h = plain k _ a b s d la lb h refl refl refl (table-value _ _ refl or-digits a b (lb ∙ sym la))
 unit-at-every-width k a b s d c la lb true false true true h = plain k _ a b s d la lb h refl refl refl (table-value _ _ refl and-digits a b (lb ∙ sym la))
@@ -114,14 +114,14 @@ unit-at-every-width k a b s d c la lb true true true true h = plain k _ a b s d 
 
 -- ---- around the two adders
 
--- an adder that adds rows of k + 1 bits will do
+-- any adder that adds rows of k + 1 bits will do
 around : (k : ℕ) (sum : List Bool → List Bool → Bool → List Bool) (carry : List Bool → List Bool → Bool → Bool)
-    → ((p q : List Bool) (f : Bool) → length p ≡ suc k → length q ≡ suc k → Adds p q f (sum p q f) (carry p q f)) → UnitAround k sum carry
+    → AddsAt (suc k) sum carry → UnitAround k sum carry
 around k sum carry h a b c la lb o0 o1 o2 o3 =
     unit-at-every-width k a b _ _ c la lb o0 o1 o2 o3 (h _ _ _ (first-length _ a b (lb ∙ sym la) ∙ la) (second-length _ a ∙ la))
 
 pub ripple-unit : RippleUnit
-ripple-unit k = around k rippleSum rippleCarry (λ p q f lp lq. ripple-adds p q f (lq ∙ sym lp))
+ripple-unit k = around k rippleSum rippleCarry (ripple-adds (suc k))
 
 pub halves-unit : HalvesUnit
 halves-unit n k e = around k (halvesSum n 0) (halvesCarry n 0) (λ p q f lp lq. halves-add n p q f (lp ∙ e) (lq ∙ e))
@@ -158,7 +158,7 @@ gate-by n a b c {r} {sign} {low} {d} {l} {p} {q} {s} ha hb hsign hl (hp, hq) add
       zero = not (hz i);
     })
     ∙ (λ i. outOf 31 (el i) x y s d)
-    ∙ unit-at-every-width 31 x y s d c (length-bits 32 a) (length-bits 32 b) (eqb (n % 2) 1) (eqb (n / 2 % 2) 1) (eqb (n / 4 % 2) 1) (eqb (n / 8 % 2) 1) rows
+    ∙ unit-at-every-width 31 x y s d c (length-bits 32 a) (length-bits 32 b) (eqb (n % 2) 1) (eqb (n / 2 % 2) 1) (eqb (n / 4 % 2) 1) (eqb (n / 8 % 2) 1) added-rows
     ∙ (λ i. aluAt 31 (low-nibble n i) (value-bits 32 a ha i) (value-bits 32 b hb i) c)
   where
     x : List Bool
@@ -170,7 +170,7 @@ gate-by n a b c {r} {sign} {low} {d} {l} {p} {q} {s} ha hb hsign hl (hp, hq) add
     el : l ≡ steered n c (getD x 31 false)
     el = hl ∙ ap (steered n c) hsign
 
-    rows : Adds (firstRow (el 1) x y) (secondRow (el 1) x) (el 1 .carry) s d
-    rows =
+    added-rows : Adds (firstRow (el 1) x y) (secondRow (el 1) x) (el 1 .carry) s d
+    added-rows =
         subst (λ (m : Lines). Adds (firstRow m x y) (secondRow m x) (m .carry) s d) el
-        (subst (λ (r : List Bool). Adds (firstRow l x y) r (l .carry) s d) hq (subst (λ (r : List Bool). Adds r q (l .carry) s d) hp added))
+        (subst (λ (m : List Bool). Adds (firstRow l x y) m (l .carry) s d) hq (subst (λ (m : List Bool). Adds m q (l .carry) s d) hp added))

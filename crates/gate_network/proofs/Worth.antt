@@ -26,18 +26,21 @@ full-value : (a b c : Bool) → asNumber (fullSum a b c) + 2 * asNumber (fullCar
 unfolding xor
 full-value = three _ refl refl refl refl refl refl refl refl
 
-pub ripple-adds : RippleAdds
+rows-add : (p q : List Bool) (f : Bool) → length q ≡ length p → Adds p q f (rippleSum p q f) (rippleCarry p q f)
 unfolding value rippleSum rippleCarry
-ripple-adds [] [] c e = record { long = refl; worth = omega arith }
-ripple-adds [] (y ∷ b) c e = absurd (let h : suc (length b) ≡ 0 = e in omega arith)
-ripple-adds (x ∷ a) [] c e = absurd (let h : 0 ≡ suc (length a) = e in omega arith)
-ripple-adds (x ∷ a) (y ∷ b) c e =
-    let h = ripple-adds a b (fullCarry x y c) (suc-inj e) in
+rows-add [] [] c e = record { long = refl; worth = omega arith }
+rows-add [] (y ∷ b) c e = absurd (let h : suc (length b) ≡ 0 = e in omega arith)
+rows-add (x ∷ a) [] c e = absurd (let h : 0 ≡ suc (length a) = e in omega arith)
+rows-add (x ∷ a) (y ∷ b) c e =
+    let h = rows-add a b (fullCarry x y c) (suc-inj e) in
     let f = full-value x y c in
     let d = double (asNumber (rippleCarry a b (fullCarry x y c))) (length a) in
     record { long = ap suc (h .long); worth = omega (arith, h .worth) }
 
--- what is equal to a sum and a carry is one
+pub ripple-adds : RippleAdds
+ripple-adds w p q f lp lq = rows-add p q f (lq ∙ sym lp)
+
+-- what equals a sum and its carry out is one too
 pub adds-alike : {p q : List Bool} {f d d′ : Bool} {s s′ : List Bool} → Adds p q f s d → (d′ ≡ d) × (s′ ≡ s) → Adds p q f s′ d′
 adds-alike h (ed, es) = rw (ed, es) h
 

@@ -1,6 +1,6 @@
 -- The adder of the new card. Document 02, CR 8: "Its adder joins two half-width adders, each made the same way down to one bit, and works out
 -- the carry between them from whether a half makes or passes one on." It adds a range of two rows p and q: the 2 ^ n places from the place
--- `at` on. At each call n is one less, so that the width halves. The gates are those of the ripple adder.
+-- `at` on. At each call n is one less, so that the width halves. (In a carry-lookahead adder's terms a range generates or propagates a carry.)
 use Prim.Native.Nat.{ℕ, zero, suc, _+_, _^_}
 use mathlib.Core.Bool.{Bool, false, _&&_, _||_, xor}
 use mathlib.Core.List.{List, [], _∷_, _++_}
@@ -14,7 +14,7 @@ use Rattle.gate_network.specs.Gates.{fullSum}
 abbrev pub placeCarry : Bool → Bool → RangeCarry
 placeCarry a b = record { makes = a && b; passes = xor a b }
 
--- two ranges side by side: the upper makes a carry or passes on the one that the lower makes; both pass on the carry that comes in
+-- two ranges side by side: a carry is made where the upper makes one, or passes on the one that the lower makes; it is passed on where both do
 abbrev pub joinedCarry : (low high : RangeCarry) → RangeCarry
 joinedCarry low high = record { makes = high .makes || (high .passes && low .makes); passes = high .passes && low .passes }
 
@@ -27,13 +27,12 @@ rangeCarry (suc n) at p q = joinedCarry (rangeCarry n at p q) (rangeCarry n (at 
 abbrev pub carryPast : RangeCarry → Bool → Bool
 carryPast r c = r .makes || (r .passes && c)
 
+abbrev pub halvesCarry : (n at : ℕ) → (p q : List Bool) → Bool → Bool
+halvesCarry n at p q c = carryPast (rangeCarry n at p q) c
+
 -- ---- "joins two half-width adders, each made the same way down to one bit"
 
--- the sum of a range and a carry: the lower half's with the carry in, then the upper half's with the carry between them
+-- the sum of a range and a carry: the lower half's, then the upper half's with the carry between them, which is the lower half's carry out
 unfoldable pub halvesSum : (n at : ℕ) → (p q : List Bool) → Bool → List Bool
 halvesSum zero at p q c = fullSum (getD p at false) (getD q at false) c ∷ []
-halvesSum (suc n) at p q c = halvesSum n at p q c ++ halvesSum n (at + 2 ^ n) p q (carryPast (rangeCarry n at p q) c)
-
--- the carry out
-unfoldable pub halvesCarry : (n at : ℕ) → (p q : List Bool) → Bool → Bool
-halvesCarry n at p q c = carryPast (rangeCarry n at p q) c
+halvesSum (suc n) at p q c = halvesSum n at p q c ++ halvesSum n (at + 2 ^ n) p q (halvesCarry n at p q c)

@@ -1,5 +1,5 @@
 // The arithmetic unit as a network of gates, and that it answers as the crate arithmetic defines at every width; no code. The theorems:
-// specs/Theorems.antt, proved in proofs/Worth.antt (the ripple adder), proofs/Joined.antt (the adder by halves) and proofs/Network.antt (the
+// specs/Theorems.antt, proved in proofs/Worth.antt (the ripple adder), proofs/Halves.antt (the adder by halves) and proofs/Network.antt (the
 // unit).
 
 // The control lines: what steers the adder's rows and the flags.
@@ -24,6 +24,6 @@ pub struct Lines {
 pub struct RangeCarry {
     // It gives one out by itself.
     pub makes: bool,
-    // It gives one out where one comes in.
+    // It gives one out just where one comes in.
     pub passes: bool,
 }

@@ -1,5 +1,6 @@
 // The adder of the new card (CR 8): two adders of half the width, each made the same way down to one bit, and the carry between them from
-// whether the lower half makes or passes one on. A range is `width` places of both rows from `at` on; the width is a power of two.
+// whether the lower half makes or passes one on. A range is `width` places of both rows from `at` on; what comes out is stated where the
+// width is a power of two.
 use gate_network::RangeCarry;
 ghost use mathlib.Core.Path.{_≡_};
 ghost use Prim.Native.Nat.{_+_, _≤_, _<_};
@@ -54,7 +55,7 @@ fn range_sum(a: &[bool], b: &[bool], at: usize, width: usize, carry: bool, out: 
 // The sum of two rows and a carry, lowest bit first. Returns the carry out.
 pub fn by_halves(a: &[bool], b: &[bool], carry: bool, out: &mut [bool]) -> bool
     requires { ⌜ (0 < length (now a)) × (length (now b) ≡ length (now a)) × (length (now out) ≡ length (now a)) ⌝ }
-    ensures { λ r. ⌜ AddsByHalves (now (a .entry)) (now (b .entry)) carry r (now (out .exit)) ⌝ }
+    ensures { λ r. ⌜ AddsByHalves (now (a .entry)) (now (b .entry)) carry (now (out .exit)) r ⌝ }
 {
     range_sum(a, b, 0, a.len(), carry, out);
     carry_past(range_carry(a, b, 0, a.len()), carry)

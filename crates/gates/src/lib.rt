@@ -64,7 +64,7 @@ pub fn unit_around(adder: Adder, operation: u8, a: u32, b: u32, carry: bool) -> 
     }
 }
 
-// The unit that sits in the gate machine: the one line that says which adder it has.
+// The unit that sits in the gate machine. Which adder it has is said in this line alone; it is the quicker one.
 pub fn gate_unit(operation: u8, a: u32, b: u32, carry: bool) -> AluOut
     ensures { λ r. ⌜ r ≡ aluOf operation a b carry ⌝ }
 {

@@ -2,18 +2,12 @@
 use Prim.Native.Nat.{ℕ, suc, _+_, _≤_}
 use mathlib.Core.Path.{_≡_, refl, sym, ap, ap₂, _∙_}
 use mathlib.Core.List.{List, [], _∷_, _++_, append-nil}
-use native.Mathlib.Nat.{add-zero, zero-add}
+use native.Mathlib.Nat.{zero-add}
 use native.Mathlib.Omega.{arith}
 use lib.ListN.{length, set, drop, length-set}
 use lib.Seq.{sets, sets-eq, set-out, set-comm, drop-length}
+use Rattle.arithmetic.proofs.Stores.{sets-append}
 use Rattle.model.specs.Words.{overlay}
-
--- values stored one after the other are stored together
-pub sets-append : (list : List ℕ) (at : ℕ) (a b : List ℕ) → sets (sets list at a) (at + length a) b ≡ sets list at (a ++ b)
-sets-append list at [] b = ap (λ (n : ℕ). sets list n b) (add-zero at)
-sets-append list at (x ∷ a) b =
-    let e : at + suc (length a) ≡ suc at + length a = omega arith in
-    ap (λ (n : ℕ). sets (sets (set list at x) (suc at) a) n b) e ∙ sets-append (set list at x) (suc at) a b
 
 -- none past the list's end
 pub sets-out : (list : List ℕ) (at : ℕ) (values : List ℕ) → length list ≤ at → sets list at values ≡ list

@@ -45,15 +45,8 @@ mod raw {
             out: *mut u8,
             result: *mut u64,
         ) -> u32;
-        pub fn gate_unit(
-            operation: u32,
-            a: u32,
-            b: u32,
-            carry: bool,
-            carry_out: *mut bool,
-            overflow: *mut bool,
-        ) -> u32;
-        pub fn gate_unit_by_halves(
+        pub fn gate_unit_with(
+            by_halves: bool,
             operation: u32,
             a: u32,
             b: u32,
@@ -157,15 +150,9 @@ pub fn image_write(memory: &[u32], machine: &[u32], out: &mut [u8], result: &mut
     }
 }
 
-pub fn gate_unit(operation: u32, a: u32, b: u32, carry: bool) -> Answer {
-    let (mut carry_out, mut overflow) = (false, false);
-    let word = unsafe { raw::gate_unit(operation, a, b, carry, &mut carry_out, &mut overflow) };
-    (word, carry_out, overflow)
-}
-
-pub fn gate_unit_by_halves(operation: u32, a: u32, b: u32, carry: bool) -> Answer {
-    let (mut carry_out, mut overflow) = (false, false);
+pub fn gate_unit(by_halves: bool, operation: u32, a: u32, b: u32, carry: bool) -> Answer {
+    let (mut out, mut overflow) = (false, false);
     let word =
-        unsafe { raw::gate_unit_by_halves(operation, a, b, carry, &mut carry_out, &mut overflow) };
-    (word, carry_out, overflow)
+        unsafe { raw::gate_unit_with(by_halves, operation, a, b, carry, &mut out, &mut overflow) };
+    (word, out, overflow)
 }

@@ -1,5 +1,5 @@
-//! The arithmetic unit out of gates on single bits: result, carry, overflow. It has
-//! the ripple adder in the gate machine, and may have the adder by halves.
+//! The arithmetic unit out of gates on single bits. It has the ripple adder in the
+//! gate machine, and may have the adder by halves.
 
 fn not(x: bool) -> bool {
     !x
@@ -82,6 +82,7 @@ pub fn gate_unit_by_halves(operation: u32, a: u32, b: u32, carry: bool) -> Answe
     unit(add_by_halves, operation, a, b, carry)
 }
 
+/// Result, carry, overflow.
 pub type Answer = (u32, bool, bool);
 
 /// Sum, carry out, and the carry into the top bit.

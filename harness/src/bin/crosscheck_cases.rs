@@ -2,15 +2,15 @@
 //! cases that are kept with it, or for the sums of CR 8, which are made when needed.
 
 use harness::crosscheck::cases::cases;
-use harness::crosscheck::units::{adder_cases, vector_cases};
+use harness::crosscheck::units::{adder_cases, kept_cases};
 use harness::crosscheck::{input, output, units};
 use std::io::{stdout, Write};
 use std::process::exit;
 
 fn main() -> std::io::Result<()> {
     let text = match std::env::args().nth(1).as_deref() {
-        Some("stdin") => [input::input(&cases()), units::input(&vector_cases())].concat(),
-        Some("stdout") => (output::output(&cases()) + &units::output(&vector_cases())).into_bytes(),
+        Some("stdin") => [input::input(&cases()), units::input(&kept_cases())].concat(),
+        Some("stdout") => (output::output(&cases()) + &units::output(&kept_cases())).into_bytes(),
         Some("sums-stdin") => units::input(&adder_cases()),
         Some("sums-stdout") => units::output(&adder_cases()).into_bytes(),
         _ => {

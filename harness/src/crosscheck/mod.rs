@@ -14,7 +14,11 @@
 //!
 //! `unit result cvnz result cvnz`
 //!
-//! by the arithmetic unit with the ripple adder, then with the adder by halves.
+//! by the arithmetic unit with the ripple adder, then with the adder by halves; and
+//!
+//! `ran result cvnz`
+//!
+//! after a sequence of operations with one of them.
 
 pub mod cases;
 pub mod input;

@@ -1,7 +1,7 @@
 use native.Mathlib.Omega.{arith}
 use borrow.Author.Needs.{needs}
 use Rattle.gate_network.proofs.Worth.{ripple-adds, adds-alike}
-use Rattle.gate_network.proofs.Joined.{halves-add}
+use Rattle.gate_network.proofs.Halves.{halves-add}
 use Rattle.gates.proofs.add.Statement.{statement}
 use Rattle.gates.proofs.add.Tie as tie
 
@@ -21,7 +21,7 @@ same-length : tie.Need-same-length
 same-length c = search needs
 
 returns : tie.Need-returns
-returns c = adds-alike (ripple-adds _ _ _ (omega arith)) (c .before .before .ripple .ensures)
+returns c = adds-alike (ripple-adds 32 _ _ _ (omega arith) (omega arith)) (c .before .before .ripple .ensures)
 
 same-length-2 : tie.Need-same-length-2
 same-length-2 c = search needs

@@ -1,5 +1,4 @@
 use Prim.Native.Nat.{ℕ, _<_}
-use mathlib.Core.Path.{refl}
 use mathlib.Core.Bool.{xor}
 use native.Mathlib.Omega.{arith}
 use borrow.Fn.Kinds.{In}
@@ -32,7 +31,7 @@ returns : (t : ℕ) → lts.Need-returns (calls t) (start t) self.Post
 unfolding xor
 returns t c =
     let args = c .before .before .before .before .before .args in
-    carry-one (args .a .now) (args .b .now) (args .at) (args .width) (omega arith) refl
+    carry-one (args .a .now) (args .b .now) (args .at) (args .width) (omega arith)
 
 range-carry-requires : (t : ℕ) → lts.Need-range-carry-requires (calls t) (start t) self.Post
 range-carry-requires t c κs = (omega arith, omega arith)
@@ -49,7 +48,7 @@ returns-2 t c =
     let tested = joining .before .before in
     let args = tested .before .before .before .args in
     carry-joined (args .a .now) (args .b .now) (args .at) (args .width) (tested .if1 .left) (joining .before .range-carry .ensures)
-    (joining .range-carry2 .ensures) refl
+    (joining .range-carry2 .ensures)
 
 pub +range-carry-spec : {M : Type 1} → statement M
 +range-carry-spec = close μ λ t. lts.spec (calls t)

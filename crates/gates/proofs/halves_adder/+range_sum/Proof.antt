@@ -1,5 +1,4 @@
 use Prim.Native.Nat.{ℕ, _<_}
-use mathlib.Core.Path.{refl}
 use mathlib.Core.Bool.{xor}
 use native.Mathlib.Omega.{arith}
 use lib.ListN.{length-set}
@@ -41,7 +40,7 @@ returns : (t : ℕ) → lts.Need-returns (calls t) (start t) self.Post
 unfolding xor
 returns t c =
     let args = c .before .before .before .before .before .before .args in
-    sum-one (args .a .now) (args .b .now) (args .at) (args .width) (args .carry) (args .out .now) (omega arith) refl
+    sum-one (args .a .now) (args .b .now) (args .at) (args .width) (args .carry) (args .out .now) (omega arith)
 
 range-sum-requires : (t : ℕ) → lts.Need-range-sum-requires (calls t) (start t) self.Post
 range-sum-requires t c κs = (omega arith, omega arith)

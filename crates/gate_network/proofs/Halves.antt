@@ -1,7 +1,7 @@
 -- The adder by halves is the ripple adder, by induction over the exponent of the width: two ripple adders side by side are one, and what a range
 -- makes or passes on is the carry that ripples out of it.
 use Prim.Native.Nat.{ℕ, zero, suc, _+_, _^_, _≤_}
-use mathlib.Core.Path.{_≡_, refl, sym, ap, ap₂, subst, _∙_}
+use mathlib.Core.Path.{_≡_, refl, sym, ap, ap₂, _∙_}
 use mathlib.Core.Bool.{Bool, true, false, _&&_, _||_}
 use mathlib.Core.List.{List, [], _∷_, _++_}
 use native.Mathlib.Nat.{suc-inj, pow-suc, le-of-eq}
@@ -10,13 +10,13 @@ use lib.ListN.{length, take, drop, getD, length-drop}
 use lib.Seq.{length-take-le, drop-cons, take-add, drop-drop, take-all}
 use Rattle.gate_network.specs.declared.RangeCarry.{RangeCarry}
 use Rattle.gate_network.specs.Gates.{fullSum, fullCarry, rippleSum, rippleCarry}
-use Rattle.gate_network.specs.Halves.{joinedCarry, rangeCarry, carryPast, halvesSum, halvesCarry}
+use Rattle.gate_network.specs.Halves.{joinedCarry, rangeCarry, carryPast, halvesSum}
 use Rattle.gate_network.specs.Theorems.{HalvesAsRipple, HalvesAdd}
 use Rattle.gate_network.proofs.Worth.{ripple-adds, adds-alike}
 
 -- ---- two ripple adders side by side
 
-pub ripple-sum-join : (a b a′ b′ : List Bool) (c : Bool) → length b ≡ length a
+ripple-sum-join : (a b a′ b′ : List Bool) (c : Bool) → length b ≡ length a
     → rippleSum (a ++ a′) (b ++ b′) c ≡ rippleSum a b c ++ rippleSum a′ b′ (rippleCarry a b c)
 unfolding rippleSum rippleCarry
 ripple-sum-join [] [] a′ b′ c e = refl
@@ -24,7 +24,7 @@ ripple-sum-join [] (y ∷ b) a′ b′ c e = absurd (let h : suc (length b) ≡ 
 ripple-sum-join (x ∷ a) [] a′ b′ c e = absurd (let h : 0 ≡ suc (length a) = e in omega arith)
 ripple-sum-join (x ∷ a) (y ∷ b) a′ b′ c e = ap (λ (l : List Bool). fullSum x y c ∷ l) (ripple-sum-join a b a′ b′ (fullCarry x y c) (suc-inj e))
 
-pub ripple-carry-join : (a b a′ b′ : List Bool) (c : Bool) → length b ≡ length a → rippleCarry (a ++ a′) (b ++ b′) c ≡ rippleCarry a′ b′ (rippleCarry a b c)
+ripple-carry-join : (a b a′ b′ : List Bool) (c : Bool) → length b ≡ length a → rippleCarry (a ++ a′) (b ++ b′) c ≡ rippleCarry a′ b′ (rippleCarry a b c)
 unfolding rippleCarry
 ripple-carry-join [] [] a′ b′ c e = refl
 ripple-carry-join [] (y ∷ b) a′ b′ c e = absurd (let h : suc (length b) ≡ 0 = e in omega arith)
@@ -47,7 +47,7 @@ abbrev range : ℕ → List Bool → ℕ → List Bool
 range n l at = take (2 ^ n) (drop at l)
 
 range-length : (n : ℕ) (l : List Bool) (at : ℕ) → at + 2 ^ n ≤ length l → length (range n l at) ≡ 2 ^ n
-range-length n l at h = length-take-le (2 ^ n) (drop at l) (subst (λ (m : ℕ). 2 ^ n ≤ m) (sym (length-drop at l)) (omega arith))
+range-length n l at h = length-take-le (2 ^ n) (drop at l) (omega (arith, length-drop at l))
 
 range-one : (l : List Bool) (at : ℕ) → at + 1 ≤ length l → range 0 l at ≡ getD l at false ∷ []
 range-one l at h = ap (take 1) (drop-cons l at false (omega arith))
@@ -74,7 +74,7 @@ module _ (p q : List Bool) (same : length q ≡ length p) where
   alike : (n at : ℕ) → at + 2 ^ n ≤ length p → length (range n q at) ≡ length (range n p at)
   alike n at h = range-length n q at (in-both h) ∙ sym (range-length n p at h)
 
-  pub range-carry : (n at : ℕ) (c : Bool) → at + 2 ^ n ≤ length p → carryPast (rangeCarry n at p q) c ≡ rippleCarry (range n p at) (range n q at) c
+  range-carry : (n at : ℕ) (c : Bool) → at + 2 ^ n ≤ length p → carryPast (rangeCarry n at p q) c ≡ rippleCarry (range n p at) (range n q at) c
   unfolding rangeCarry rippleCarry
   range-carry zero at c h = sym (ap₂ (λ (a b : List Bool). rippleCarry a b c) (range-one p at h) (range-one q at (in-both h)))
   range-carry (suc n) at c h =
@@ -84,7 +84,7 @@ module _ (p q : List Bool) (same : length q ≡ length p) where
       ∙ sym (ripple-carry-join (range n p at) (range n q at) (range n p (at + 2 ^ n)) (range n q (at + 2 ^ n)) c (alike n at (lower n at h)))
       ∙ sym (ap₂ (λ (a b : List Bool). rippleCarry a b c) (range-split n p at) (range-split n q at))
 
-  pub range-sum : (n at : ℕ) (c : Bool) → at + 2 ^ n ≤ length p → halvesSum n at p q c ≡ rippleSum (range n p at) (range n q at) c
+  range-sum : (n at : ℕ) (c : Bool) → at + 2 ^ n ≤ length p → halvesSum n at p q c ≡ rippleSum (range n p at) (range n q at) c
   unfolding halvesSum rippleSum
   range-sum zero at c h = sym (ap₂ (λ (a b : List Bool). rippleSum a b c) (range-one p at h) (range-one q at (in-both h)))
   range-sum (suc n) at c h =
@@ -99,7 +99,6 @@ range-all : (n : ℕ) (l : List Bool) → length l ≡ 2 ^ n → range n l 0 ≡
 range-all n l e = take-all (2 ^ n) l (le-of-eq e)
 
 pub halves-as-ripple : HalvesAsRipple
-unfolding halvesCarry
 halves-as-ripple n p q f lp lq =
     let same : length q ≡ length p = lq ∙ sym lp in
     let fits : 0 + 2 ^ n ≤ length p = omega arith in
@@ -111,4 +110,4 @@ halves-as-ripple n p q f lp lq =
 pub halves-add : HalvesAdd
 halves-add n p q f lp lq =
     let h = halves-as-ripple n p q f lp lq in
-    adds-alike (ripple-adds p q f (lq ∙ sym lp)) (h .carry, h .sum)
+    adds-alike (ripple-adds (2 ^ n) p q f lp lq) (h .carry, h .sum)
