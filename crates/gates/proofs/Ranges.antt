@@ -12,7 +12,7 @@ use Rattle.arithmetic.proofs.Stores.{sets-append}
 use Rattle.gate_network.specs.declared.RangeCarry.{RangeCarry}
 use Rattle.gate_network.specs.Gates.{fullSum}
 use Rattle.gate_network.specs.Halves.{placeCarry, joinedCarry, rangeCarry, carryPast, halvesSum, halvesCarry}
-use Rattle.gates.specs.Halving.{RangeCarries, RangeSums, AddsByHalves}
+use Rattle.gates.specs.Halving.{RangeCarries, RangeSums}
 
 -- ---- the sum as a row
 
@@ -72,9 +72,9 @@ module _ (p q : List Bool) (at width : ℕ) where
       ∙ (λ i. sets (s n half i) (at + half i) (halvesSum n (at + half i) p q ((e ∙ ap (λ (t : RangeCarry). carryPast t f) (l n half)) i)))
       ∙ ap (λ (m : ℕ). sets (sets out at lower) (at + m) upper) (sym (halves-length n at p q f)) ∙ sets-append out at lower upper
 
--- ---- the whole rows
+-- ---- the whole rows, of 32 bits
 
-pub halves-whole : (p q : List Bool) (f : Bool) (out : List Bool) {d : Bool} {r : RangeCarry} {s : List Bool} → length out ≡ length p
-    → RangeSums p q 0 (length p) f out s → RangeCarries p q 0 (length p) r → d ≡ carryPast r f → AddsByHalves p q f s d
-halves-whole p q f out e h l g n w =
-    (g ∙ ap (λ (t : RangeCarry). carryPast t f) (l n w), h n w ∙ sets-all out (halvesSum n 0 p q f) (halves-length n 0 p q f ∙ sym (e ∙ w)))
+pub halves-whole : (p q : List Bool) (f : Bool) (out : List Bool) {d : Bool} {r : RangeCarry} {s : List Bool} → length out ≡ 32
+    → RangeSums p q 0 32 f out s → RangeCarries p q 0 32 r → d ≡ carryPast r f → (d ≡ halvesCarry 5 0 p q f) × (s ≡ halvesSum 5 0 p q f)
+halves-whole p q f out e h l g =
+    (g ∙ ap (λ (t : RangeCarry). carryPast t f) (l 5 refl), h 5 refl ∙ sets-all out (halvesSum 5 0 p q f) (halves-length 5 0 p q f ∙ sym e))

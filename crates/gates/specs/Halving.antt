@@ -4,10 +4,9 @@ use Prim.Native.Nat.{ℕ, _^_}
 use mathlib.Core.Path.{_≡_}
 use mathlib.Core.Bool.{Bool}
 use mathlib.Core.List.{List}
-use lib.ListN.{length}
 use lib.Seq.{sets}
 use Rattle.gate_network.specs.declared.RangeCarry.{RangeCarry}
-use Rattle.gate_network.specs.Halves.{rangeCarry, halvesSum, halvesCarry}
+use Rattle.gate_network.specs.Halves.{rangeCarry, halvesSum}
 
 -- r is what the range of the rows p and q makes and passes on
 abbrev pub RangeCarries : (p q : List Bool) → (at width : ℕ) → (r : RangeCarry) → Type 0
@@ -16,7 +15,3 @@ RangeCarries p q at width r = (n : ℕ) → width ≡ 2 ^ n → r ≡ rangeCarry
 -- the range's sum is stored to the range's places of a row
 abbrev pub RangeSums : (p q : List Bool) → (at width : ℕ) → (f : Bool) → (entry exit : List Bool) → Type 0
 RangeSums p q at width f entry exit = (n : ℕ) → width ≡ 2 ^ n → exit ≡ sets entry at (halvesSum n at p q f)
-
--- s and d are the sum and the carry out of the whole rows
-abbrev pub AddsByHalves : (p q : List Bool) → (f : Bool) → (s : List Bool) → (d : Bool) → Type 0
-AddsByHalves p q f s d = (n : ℕ) → length p ≡ 2 ^ n → (d ≡ halvesCarry n 0 p q f) × (s ≡ halvesSum n 0 p q f)

@@ -1,12 +1,12 @@
 // The adder of the new card (CR 8): two adders of half the width, each made the same way down to one bit, and the carry between them from
 // whether the lower half makes or passes one on. A range is `width` places of both rows from `at` on; what comes out is stated where the
-// width is a power of two.
+// width is a power of two. The rows are lent as arrays, since a slice takes each of the many calls longer.
 use gate_network::RangeCarry;
 ghost use mathlib.Core.Path.{_≡_};
 ghost use Prim.Native.Nat.{_+_, _≤_, _<_};
 ghost use lib.ListN.{length};
-ghost use Rattle.gate_network.specs.Halves.{carryPast};
-ghost use Rattle.gates.specs.Halving.{RangeCarries, RangeSums, AddsByHalves};
+ghost use Rattle.gate_network.specs.Halves.{carryPast, halvesSum, halvesCarry};
+ghost use Rattle.gates.specs.Halving.{RangeCarries, RangeSums};
 
 // The carry out of a range, by the carry in.
 fn carry_past(r: RangeCarry, carry: bool) -> bool
@@ -16,8 +16,8 @@ fn carry_past(r: RangeCarry, carry: bool) -> bool
 }
 
 // Whether a range makes a carry, and whether it passes one on.
-fn range_carry(a: &[bool], b: &[bool], at: usize, width: usize) -> RangeCarry
-    requires { ⌜ (0 < width) × (at + width ≤ length (now a)) × (length (now b) ≡ length (now a)) ⌝ }
+fn range_carry(a: &[bool; 32], b: &[bool; 32], at: usize, width: usize) -> RangeCarry
+    requires { ⌜ (0 < width) × (at + width ≤ 32) ⌝ }
     ensures { λ r. ⌜ RangeCarries (now (a .entry)) (now (b .entry)) at width r ⌝ }
 {
     if width == 1 {
@@ -38,8 +38,15 @@ fn range_carry(a: &[bool], b: &[bool], at: usize, width: usize) -> RangeCarry
 }
 
 // The sum of a range, into the same places of `out`.
-fn range_sum(a: &[bool], b: &[bool], at: usize, width: usize, carry: bool, out: &mut [bool])
-    requires { ⌜ (0 < width) × (at + width ≤ length (now a)) × (length (now b) ≡ length (now a)) × (length (now out) ≡ length (now a)) ⌝ }
+fn range_sum(
+    a: &[bool; 32],
+    b: &[bool; 32],
+    at: usize,
+    width: usize,
+    carry: bool,
+    out: &mut [bool; 32],
+)
+    requires { ⌜ (0 < width) × (at + width ≤ 32) ⌝ }
     ensures { λ _. ⌜ RangeSums (now (a .entry)) (now (b .entry)) at width carry (now (out .entry)) (now (out .exit)) ⌝ }
 {
     if width == 1 {
@@ -53,10 +60,10 @@ fn range_sum(a: &[bool], b: &[bool], at: usize, width: usize, carry: bool, out: 
 }
 
 // The sum of two rows and a carry, lowest bit first. Returns the carry out.
-pub fn by_halves(a: &[bool], b: &[bool], carry: bool, out: &mut [bool]) -> bool
-    requires { ⌜ (0 < length (now a)) × (length (now b) ≡ length (now a)) × (length (now out) ≡ length (now a)) ⌝ }
-    ensures { λ r. ⌜ AddsByHalves (now (a .entry)) (now (b .entry)) carry (now (out .exit)) r ⌝ }
+pub fn by_halves(a: &[bool; 32], b: &[bool; 32], carry: bool, out: &mut [bool; 32]) -> bool
+    requires { ⌜ length (now out) ≡ 32 ⌝ }
+    ensures { λ r. ⌜ (r ≡ halvesCarry 5 0 (now (a .entry)) (now (b .entry)) carry) × (now (out .exit) ≡ halvesSum 5 0 (now (a .entry)) (now (b .entry)) carry) ⌝ }
 {
-    range_sum(a, b, 0, a.len(), carry, out);
-    carry_past(range_carry(a, b, 0, a.len()), carry)
+    range_sum(a, b, 0, 32, carry, out);
+    carry_past(range_carry(a, b, 0, 32), carry)
 }

@@ -28,7 +28,7 @@ pub enum Adder {
 }
 
 // The sum of two rows of 32 bits and a carry. Returns the carry out.
-fn add(adder: Adder, a: &[bool], b: &[bool], carry: bool, out: &mut [bool]) -> bool
+fn add(adder: Adder, a: &[bool; 32], b: &[bool; 32], carry: bool, out: &mut [bool; 32]) -> bool
     requires { ⌜ (length (now a) ≡ 32) × (length (now b) ≡ 32) × (length (now out) ≡ 32) ⌝ }
     ensures { λ r. ⌜ Adds (now (a .entry)) (now (b .entry)) carry (now (out .exit)) r ⌝ }
 {

@@ -17,28 +17,13 @@ enum-told-2 c = search needs
 by-halves-requires : tie.Need-by-halves-requires
 by-halves-requires c κs = search needs
 
-same-length : tie.Need-same-length
-same-length c = search needs
-
 returns : tie.Need-returns
-returns c = adds-alike (ripple-adds 32 _ _ _ (omega arith) (omega arith)) (c .before .before .ripple .ensures)
-
-same-length-2 : tie.Need-same-length-2
-same-length-2 c = search needs
+returns c = adds-alike (ripple-adds 32 _ _ _ (omega arith) (omega arith)) (c .ripple .ensures)
 
 -- 32 is the fifth power of two
 returns-2 : tie.Need-returns-2
-returns-2 c = adds-alike (halves-add 5 _ _ _ (omega arith) (omega arith)) (c .before .before .by-halves .ensures 5 (omega arith))
+returns-2 c = adds-alike (halves-add 5 _ _ _ (omega arith) (omega arith)) (c .by-halves .ensures)
 
 pub add-spec : {M : Type 1} → statement M
 add-spec =
-    tie.close
-    (tie.spec
-    enum-told
-    ripple-requires
-    enum-told-2
-    by-halves-requires
-    same-length
-    returns
-    same-length-2
-    returns-2)
+    tie.close (tie.spec enum-told ripple-requires enum-told-2 by-halves-requires returns returns-2)

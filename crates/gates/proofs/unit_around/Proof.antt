@@ -20,15 +20,6 @@ slice-aggregate-adder-rows-2 c = search needs
 adder-rows-requires : tie.Need-adder-rows-requires
 adder-rows-requires c κs = search needs
 
-slice-aggregate-add : tie.Need-slice-aggregate-add
-slice-aggregate-add c = search needs
-
-slice-aggregate-add-2 : tie.Need-slice-aggregate-add-2
-slice-aggregate-add-2 c = search needs
-
-slice-aggregate-add-3 : tie.Need-slice-aggregate-add-3
-slice-aggregate-add-3 c = search needs
-
 add-requires : tie.Need-add-requires
 add-requires c κs = search needs
 
@@ -44,11 +35,11 @@ from-bits-requires c κs = search needs
 bit-requires-2 : tie.Need-bit-requires-2
 bit-requires-2 c κs = search needs
 
-array-read-t40 : tie.Need-array-read-t40
-array-read-t40 c = search needs
+array-read-t37 : tie.Need-array-read-t37
+array-read-t37 c = search needs
 
-array-read-t44 : tie.Need-array-read-t44
-array-read-t44 c = search needs
+array-read-t41 : tie.Need-array-read-t41
+array-read-t41 c = search needs
 
 slice-aggregate-any : tie.Need-slice-aggregate-any
 slice-aggregate-any c = search needs
@@ -60,11 +51,11 @@ returns : tie.Need-returns
 unfolding xor
 returns c =
     let read = c .before .before .before .before .before in
-    let made = read .before .before .before .before .before .before .before .before .before in
+    let made = read .before .before .before .before .before .before .before .before in
     let steered = made .before .before .before in
     let args = steered .before .before .args in
     gate-by (args .operation) (args .a) (args .b) (args .carry) (omega arith) (omega arith) (steered .before .bit .ensures)
-    (steered .control .ensures) (made .adder-rows .ensures) (read .before .before .before .add .ensures) (read .from-bits .ensures)
+    (steered .control .ensures) (made .adder-rows .ensures) (read .before .before .add .ensures) (read .from-bits .ensures)
     (c .before .before .before .before .bit2 .ensures) (c .any .ensures)
 
 pub unit-around-spec : {M : Type 1} → statement M
@@ -76,16 +67,13 @@ unit-around-spec =
     slice-aggregate-adder-rows
     slice-aggregate-adder-rows-2
     adder-rows-requires
-    slice-aggregate-add
-    slice-aggregate-add-2
-    slice-aggregate-add-3
     add-requires
     array-read-top
     slice-aggregate-from-bits
     from-bits-requires
     bit-requires-2
-    array-read-t40
-    array-read-t44
+    array-read-t37
+    array-read-t41
     slice-aggregate-any
     any-requires
     returns)

@@ -21,16 +21,16 @@ start t = and 2 kinds.ps (is 2 kinds.ps μ t) self.Pre
 abbrev calls : ℕ → lts.Claims
 calls t = (and 2 kinds.ps (falls 2 kinds.ps _<_ μ t) self.Pre, self.Post)
 
-shared-slice-read-x : (t : ℕ) → lts.Need-shared-slice-read-x (calls t) (start t) self.Post
-shared-slice-read-x t c = omega arith
+element-copy-out-x : (t : ℕ) → lts.Need-element-copy-out-x (calls t) (start t) self.Post
+element-copy-out-x t c = omega arith
 
-shared-slice-read-y : (t : ℕ) → lts.Need-shared-slice-read-y (calls t) (start t) self.Post
-shared-slice-read-y t c = omega arith
+element-copy-out-y : (t : ℕ) → lts.Need-element-copy-out-y (calls t) (start t) self.Post
+element-copy-out-y t c = omega arith
 
 returns : (t : ℕ) → lts.Need-returns (calls t) (start t) self.Post
 unfolding xor
 returns t c =
-    let args = c .before .before .before .before .before .args in
+    let args = c .before .before .before .args in
     carry-one (args .a .now) (args .b .now) (args .at) (args .width) (omega arith)
 
 range-carry-requires : (t : ℕ) → lts.Need-range-carry-requires (calls t) (start t) self.Post
@@ -46,7 +46,7 @@ returns-2 : (t : ℕ) → lts.Need-returns-2 (calls t) (start t) self.Post
 returns-2 t c =
     let joining = c .before .before .before .before .before in
     let tested = joining .before .before in
-    let args = tested .before .before .before .args in
+    let args = tested .before .args in
     carry-joined (args .a .now) (args .b .now) (args .at) (args .width) (tested .if1 .left) (joining .before .range-carry .ensures)
     (joining .range-carry2 .ensures)
 
@@ -54,8 +54,8 @@ pub +range-carry-spec : {M : Type 1} → statement M
 +range-carry-spec = close μ λ t. lts.spec (calls t)
     (start t)
     self.Post
-    (shared-slice-read-x t)
-    (shared-slice-read-y t)
+    (element-copy-out-x t)
+    (element-copy-out-y t)
     (returns t)
     (range-carry-requires t)
     (add-range-carry t)

@@ -1,7 +1,6 @@
 use Prim.Native.Nat.{ℕ, _<_}
 use mathlib.Core.Bool.{xor}
 use native.Mathlib.Omega.{arith}
-use lib.ListN.{length-set}
 use borrow.Fn.Kinds.{In}
 use borrow.Fn.PlainCycle.{Measures, is, falls, and}
 use Rattle.gates.proofs.Ranges.{sum-one, sum-joined}
@@ -24,22 +23,19 @@ start t = and 3 kinds.ps (is 3 kinds.ps μ t) self.Pre
 abbrev calls : ℕ → lts.Claims
 calls t = (and 3 kinds.ps (falls 3 kinds.ps _<_ μ t) self.Pre, self.Post, range-carry.Asked, range-carry.Learnt, carry-past.Asked, carry-past.Learnt)
 
-shared-slice-read-out : (t : ℕ) → lts.Need-shared-slice-read-out (calls t) (start t) self.Post
-shared-slice-read-out t c = omega arith
+element-copy-out-out : (t : ℕ) → lts.Need-element-copy-out-out (calls t) (start t) self.Post
+element-copy-out-out t c = omega arith
 
-shared-slice-read-out-2 : (t : ℕ) → lts.Need-shared-slice-read-out-2 (calls t) (start t) self.Post
-shared-slice-read-out-2 t c = omega arith
+element-copy-out-out-2 : (t : ℕ) → lts.Need-element-copy-out-out-2 (calls t) (start t) self.Post
+element-copy-out-out-2 t c = omega arith
 
-slice-write-out : (t : ℕ) → lts.Need-slice-write-out (calls t) (start t) self.Post
-slice-write-out t c = omega arith
-
-same-length : (t : ℕ) → lts.Need-same-length (calls t) (start t) self.Post
-same-length t c = simp length-set
+element-write-out : (t : ℕ) → lts.Need-element-write-out (calls t) (start t) self.Post
+element-write-out t c = omega arith
 
 returns : (t : ℕ) → lts.Need-returns (calls t) (start t) self.Post
 unfolding xor
 returns t c =
-    let args = c .before .before .before .before .before .before .args in
+    let args = c .before .before .before .args in
     sum-one (args .a .now) (args .b .now) (args .at) (args .width) (args .carry) (args .out .now) (omega arith)
 
 range-sum-requires : (t : ℕ) → lts.Need-range-sum-requires (calls t) (start t) self.Post
@@ -57,31 +53,26 @@ add-range-sum t c = omega arith
 range-sum-requires-2 : (t : ℕ) → lts.Need-range-sum-requires-2 (calls t) (start t) self.Post
 range-sum-requires-2 t c κs = (omega arith, omega arith)
 
-same-length-2 : (t : ℕ) → lts.Need-same-length-2 (calls t) (start t) self.Post
-same-length-2 t c = omega arith
-
 returns-2 : (t : ℕ) → lts.Need-returns-2 (calls t) (start t) self.Post
 returns-2 t c =
-    let carried = c .before .before .before .before in
-    let first = carried .before .before .before .before in
+    let carried = c .before .before in
+    let first = carried .before .before in
     let tested = first .before .before in
-    let args = tested .before .before .before .before .args in
+    let args = tested .before .args in
     sum-joined (args .a .now) (args .b .now) (args .at) (args .width) (args .carry) (args .out .now) (tested .if1 .left) (first .range-sum .ensures)
-    (carried .before .range-carry .ensures) (carried .carry-past .ensures) (c .before .before .range-sum2 .ensures)
+    (carried .before .range-carry .ensures) (carried .carry-past .ensures) (c .range-sum2 .ensures)
 
 pub +range-sum-spec : {M : Type 1} → statement M
 +range-sum-spec = close μ λ t. lts.spec (calls t)
     (start t)
     self.Post
-    (shared-slice-read-out t)
-    (shared-slice-read-out-2 t)
-    (slice-write-out t)
-    (same-length t)
+    (element-copy-out-out t)
+    (element-copy-out-out-2 t)
+    (element-write-out t)
     (returns t)
     (range-sum-requires t)
     (range-carry-requires t)
     (carry-past-requires t)
     (add-range-sum t)
     (range-sum-requires-2 t)
-    (same-length-2 t)
     (returns-2 t)

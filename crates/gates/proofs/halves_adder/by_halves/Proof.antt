@@ -13,16 +13,13 @@ range-carry-requires c κs = search needs
 carry-past-requires : tie.Need-carry-past-requires
 carry-past-requires c κs = search needs
 
-same-length : tie.Need-same-length
-same-length c = search needs
-
 returns : tie.Need-returns
 returns c =
-    let added = c .before .before .before .before in
-    let args = added .before .before .before .before .before .args in
+    let added = c .before .before in
+    let args = added .before .before .args in
     halves-whole (args .a .now) (args .b .now) (args .carry) (args .out .now) (omega arith) (added .range-sum .ensures) (c .before .range-carry .ensures)
     (c .carry-past .ensures)
 
 pub by-halves-spec : {M : Type 1} → statement M
 by-halves-spec =
-    tie.close (tie.spec range-sum-requires range-carry-requires carry-past-requires same-length returns)
+    tie.close (tie.spec range-sum-requires range-carry-requires carry-past-requires returns)
