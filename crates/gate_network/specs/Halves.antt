@@ -14,7 +14,8 @@ use Rattle.gate_network.specs.Gates.{fullSum}
 abbrev pub placeCarry : Bool → Bool → RangeCarry
 placeCarry a b = record { makes = a && b; passes = xor a b }
 
--- two ranges side by side: a carry is made where the upper makes one, or passes on the one that the lower makes; it is passed on where both do
+-- two ranges side by side: a carry is made where the upper makes one, or passes on the one that the lower makes; one that comes in is passed on
+-- where both pass it on
 abbrev pub joinedCarry : (low high : RangeCarry) → RangeCarry
 joinedCarry low high = record { makes = high .makes || (high .passes && low .makes); passes = high .passes && low .passes }
 
