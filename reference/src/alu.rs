@@ -9,6 +9,21 @@ pub struct AluResult {
     pub flags: Flags,
 }
 
+impl AluResult {
+    /// N and Z are those of the word.
+    pub fn of(word: u32, carry: bool, overflow: bool) -> AluResult {
+        AluResult {
+            word,
+            flags: Flags {
+                carry,
+                overflow,
+                negative: word >> 31 == 1,
+                zero: word == 0,
+            },
+        }
+    }
+}
+
 /// Operation `operation` (its low four bits) on `a`, `b` and the old carry.
 pub fn alu(operation: u8, a: u32, b: u32, carry: bool) -> AluResult {
     let plain = |word| (word, false, false);
@@ -31,15 +46,7 @@ pub fn alu(operation: u8, a: u32, b: u32, carry: bool) -> AluResult {
         14 => plain(!a),
         _ => plain(a),
     };
-    AluResult {
-        word,
-        flags: Flags {
-            carry,
-            overflow,
-            negative: word >> 31 == 1,
-            zero: word == 0,
-        },
-    }
+    AluResult::of(word, carry, overflow)
 }
 
 /// Word, carry and overflow of x + y + carry.

@@ -2,24 +2,17 @@
 use Prim.Native.Nat.{ℕ, zero, suc, _+_, _/_, _^_}
 use mathlib.Core.Path.{_≡_, refl, sym, ap, _∙_}
 use mathlib.Core.Bool.{Bool, false}
-use mathlib.Core.List.{List, [], _∷_, _++_, append-nil}
-use native.Mathlib.Nat.{zero-add, le-of-eq, pow-suc}
+use mathlib.Core.List.{List, [], _∷_, _++_}
+use native.Mathlib.Nat.{pow-suc}
 use native.Mathlib.Omega.{arith}
-use lib.ListN.{length, getD, set, length-append, drop-of-length-le}
+use lib.ListN.{length, getD, set, length-append}
 use lib.Pow.{pow-pos}
-use lib.Seq.{sets, sets-eq}
-use Rattle.arithmetic.proofs.Stores.{sets-append}
+use lib.Seq.{sets}
+use Rattle.model.proofs.Stores.{sets-append, all-set}
 use Rattle.gate_network.specs.declared.RangeCarry.{RangeCarry}
 use Rattle.gate_network.specs.Gates.{fullSum}
 use Rattle.gate_network.specs.Halves.{placeCarry, joinedCarry, rangeCarry, carryPast, halvesSum, halvesCarry}
 use Rattle.gates.specs.Halving.{RangeCarries, RangeSums}
-
--- ---- the sum as a row
-
-sets-all : (l v : List Bool) → length v ≡ length l → sets l 0 v ≡ v
-sets-all l v e =
-    sets-eq v l 0 (le-of-eq (zero-add (length v) ∙ e))
-    ∙ ap (λ (m : List Bool). v ++ m) (drop-of-length-le l (le-of-eq (sym (zero-add (length v) ∙ e)))) ∙ append-nil v
 
 halves-length : (n at : ℕ) (p q : List Bool) (f : Bool) → length (halvesSum n at p q f) ≡ 2 ^ n
 unfolding halvesSum
@@ -77,4 +70,4 @@ module _ (p q : List Bool) (at width : ℕ) where
 pub halves-whole : (p q : List Bool) (f : Bool) (out : List Bool) {d : Bool} {r : RangeCarry} {s : List Bool} → length out ≡ 32
     → RangeSums p q 0 32 f out s → RangeCarries p q 0 32 r → d ≡ carryPast r f → (d ≡ halvesCarry 5 0 p q f) × (s ≡ halvesSum 5 0 p q f)
 halves-whole p q f out e h l g =
-    (g ∙ ap (λ (t : RangeCarry). carryPast t f) (l 5 refl), h 5 refl ∙ sets-all out (halvesSum 5 0 p q f) (halves-length 5 0 p q f ∙ sym e))
+    (g ∙ ap (λ (t : RangeCarry). carryPast t f) (l 5 refl), h 5 refl ∙ all-set out (halvesSum 5 0 p q f) (e ∙ sym (halves-length 5 0 p q f)))

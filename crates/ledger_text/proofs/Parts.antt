@@ -4,7 +4,7 @@ use mathlib.Core.Path.{ap, _∙_}
 use mathlib.Core.List.{List, [], _∷_, _++_}
 use native.Mathlib.Omega.{arith}
 use lib.ListN.{length, length-append}
-use Rattle.arithmetic.proofs.Stores.{sets-append}
+use Rattle.model.proofs.Stores.{sets-append}
 use Rattle.text.specs.Text.{Puts}
 use Rattle.ledger_text.specs.Parts.{Extends, ExtendsBy}
 

@@ -2,12 +2,18 @@
 use Prim.Native.Nat.{ℕ, suc, _+_, _≤_}
 use mathlib.Core.Path.{_≡_, refl, sym, ap, ap₂, _∙_}
 use mathlib.Core.List.{List, [], _∷_, _++_, append-nil}
-use native.Mathlib.Nat.{zero-add}
+use native.Mathlib.Nat.{add-zero, zero-add}
 use native.Mathlib.Omega.{arith}
 use lib.ListN.{length, set, drop, length-set}
 use lib.Seq.{sets, sets-eq, set-out, set-comm, drop-length}
-use Rattle.arithmetic.proofs.Stores.{sets-append}
 use Rattle.model.specs.Words.{overlay}
+
+-- values stored one after the other are stored together
+pub sets-append : {A : Type 0} (list : List A) (at : ℕ) (a b : List A) → sets (sets list at a) (at + length a) b ≡ sets list at (a ++ b)
+sets-append list at [] b = ap (λ (n : ℕ). sets list n b) (add-zero at)
+sets-append list at (x ∷ a) b =
+    let e : at + suc (length a) ≡ suc at + length a = omega arith in
+    ap (λ (n : ℕ). sets (sets (set list at x) (suc at) a) n b) e ∙ sets-append (set list at x) (suc at) a b
 
 -- none past the list's end
 pub sets-out : (list : List ℕ) (at : ℕ) (values : List ℕ) → length list ≤ at → sets list at values ≡ list
@@ -38,9 +44,9 @@ pub overlaid : (list values : List ℕ) → length values ≤ length list → se
 overlaid list values h = sets-eq values list 0 (rw zero-add h) ∙ ap (λ (n : ℕ). values ++ drop n list) (zero-add (length values))
 
 -- as many values as the list has replace it
-pub all-set : (list values : List ℕ) → length list ≡ length values → sets list 0 values ≡ values
+pub all-set : {A : Type 0} (list values : List A) → length list ≡ length values → sets list 0 values ≡ values
 all-set list values e =
-    overlaid list values (omega arith)
-    ∙ ap (λ (n : ℕ). values ++ drop n list) (sym e)
-    ∙ ap (λ (l : List ℕ). values ++ l) (drop-length list)
+    sets-eq values list 0 (omega arith)
+    ∙ ap (λ n. values ++ drop n list) (zero-add (length values) ∙ sym e)
+    ∙ ap (λ l. values ++ l) (drop-length list)
     ∙ append-nil values

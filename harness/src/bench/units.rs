@@ -6,7 +6,6 @@ use super::table::Table;
 use crate::baseline::{c, gate_unit};
 use crate::crosscheck::units::{input, operate, text, Adder, Case, Unit, HALVES, RIPPLE};
 use reference::alu::AluResult;
-use reference::Flags;
 use std::io::Write;
 use std::process::{Command, Stdio};
 
@@ -50,15 +49,7 @@ const CONTESTS: [Contest; 2] = [
 
 /// The baselines leave N and Z to their caller, who has them from the word.
 fn flagged((word, carry, overflow): gate_unit::Answer) -> AluResult {
-    AluResult {
-        word,
-        flags: Flags {
-            carry,
-            overflow,
-            negative: word >> 31 == 1,
-            zero: word == 0,
-        },
-    }
+    AluResult::of(word, carry, overflow)
 }
 
 pub fn units(rounds: u64, operations: u32) -> Table {
