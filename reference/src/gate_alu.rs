@@ -8,8 +8,6 @@ use crate::alu::AluResult;
 use crate::gate_primitives::{and, not, or, select, xor};
 use crate::machine::Flags;
 
-const WIDTH: usize = 32;
-
 /// The control lines decoded from the four bits of the operation.
 struct Control {
     /// The result is the adder's (0-7).
@@ -65,12 +63,13 @@ impl Control {
 /// The result of operation `operation` (its low four bits), computed by gates
 /// with the ripple adder.
 pub fn gate_alu(operation: u8, a: u32, b: u32, carry: bool) -> AluResult {
-    gate_alu_around(ripple_add, operation, a, b, carry)
+    gate_alu_around(ripple_add::<32>, operation, a, b, carry)
 }
 
-/// The same around any adder (CR 8: either may sit in the gate machine).
-pub fn gate_alu_around(
-    adder: impl Fn(&Bits<WIDTH>, &Bits<WIDTH>, bool) -> (Bits<WIDTH>, bool),
+/// The same around any adder (CR 8: either may sit in the gate machine), at the
+/// adder's width: 1 to 32 bits.
+pub fn gate_alu_around<const N: usize>(
+    adder: impl Fn(&Bits<N>, &Bits<N>, bool) -> (Bits<N>, bool),
     operation: u8,
     a: u32,
     b: u32,
@@ -78,7 +77,7 @@ pub fn gate_alu_around(
 ) -> AluResult {
     let a = bits(a);
     let b = bits(b);
-    let top = WIDTH - 1;
+    let top = N - 1;
     let control = Control::decode(operation, a[top], carry);
 
     let x = a.map(|bit| xor(bit, control.complement_a));
@@ -103,16 +102,16 @@ pub fn gate_alu_around(
 }
 
 /// The output selectors; exactly one source, or both of 12's, is let through.
-fn choose_result(
+fn choose_result<const N: usize>(
     control: &Control,
-    a: &Bits<WIDTH>,
-    b: &Bits<WIDTH>,
-    sum: &Bits<WIDTH>,
-) -> Bits<WIDTH> {
-    let mut halved = [control.top; WIDTH];
-    halved[..WIDTH - 1].copy_from_slice(&a[1..]);
-    let mut result = [false; WIDTH];
-    for i in 0..WIDTH {
+    a: &Bits<N>,
+    b: &Bits<N>,
+    sum: &Bits<N>,
+) -> Bits<N> {
+    let mut halved = [control.top; N];
+    halved[..N - 1].copy_from_slice(&a[1..]);
+    let mut result = [false; N];
+    for i in 0..N {
         let arithmetic = or(and(control.adder, sum[i]), and(control.halve, halved[i]));
         let logic = or(
             and(control.one_of, xor(a[i], b[i])),
@@ -125,12 +124,12 @@ fn choose_result(
 }
 
 /// The bits of a word, lowest first.
-fn bits(word: u32) -> Bits<WIDTH> {
+fn bits<const N: usize>(word: u32) -> Bits<N> {
     std::array::from_fn(|i| word >> i & 1 == 1)
 }
 
 /// The inverse of [`bits`].
-fn word(bits: &Bits<WIDTH>) -> u32 {
+fn word<const N: usize>(bits: &Bits<N>) -> u32 {
     let places = bits.iter().enumerate();
     places.fold(0, |word, (i, &bit)| word | u32::from(bit) << i)
 }

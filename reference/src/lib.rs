@@ -17,6 +17,7 @@ pub mod instruction;
 pub mod interpreter;
 pub mod ledger;
 pub mod machine;
+pub mod meaning;
 pub mod refusal;
 pub mod rng;
 pub mod vectors;

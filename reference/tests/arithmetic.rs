@@ -19,7 +19,7 @@ fn vectors_of_the_fm9001() {
         for result in [
             alu(v.operation, v.a, v.b, v.carry_in),
             gate_alu(v.operation, v.a, v.b, v.carry_in),
-            gate_alu_around(halves_add, v.operation, v.a, v.b, v.carry_in),
+            gate_alu_around(halves_add::<32>, v.operation, v.a, v.b, v.carry_in),
         ] {
             assert_eq!(result.word, v.result, "{} {:X} {:X}", v.operation, v.a, v.b);
             assert_eq!(result.flags.carry, v.carry);
@@ -50,7 +50,7 @@ fn check_units_agree(operation: u8, a: u32, b: u32) {
         let words = alu(operation, a, b, carry);
         for gates in [
             gate_alu(operation, a, b, carry),
-            gate_alu_around(halves_add, operation, a, b, carry),
+            gate_alu_around(halves_add::<32>, operation, a, b, carry),
         ] {
             assert_eq!(gates, words, "{operation} {a:X} {b:X} {carry}");
         }

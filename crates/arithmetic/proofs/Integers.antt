@@ -1,12 +1,12 @@
 -- Integers as differences of two naturals: `Is z a b` says that z is a - b. Sums, differences and the tests of order go over to naturals,
 -- where omega reads them.
 use Prim.Native.Nat.{ℕ, zero, suc, _+_, _-_, _^_, _≤_, _<_}
-use mathlib.Core.Path.{_≡_, refl, sym, ap₂, _∙_}
+use mathlib.Core.Path.{_≡_, refl, sym, ap, ap₂, _∙_}
 use mathlib.Core.Bool.{Bool, true, false, cond, _||_}
 use native.Mathlib.Omega.{arith}
-use lib.Dec.{ltb, leb}
+use lib.Dec.{T, ltb, leb, le→leb, lt→ltb}
 use lib.IntN.{ℤ, pos, negsuc, negℤ, subℕ, _+ℤ_, _-ℤ_}
-use lib.Signed.{ltZ, leZ}
+use lib.Signed.{ltZ, leZ, _≤ℤ_, _<ℤ_, leZ-yes, ltZ-yes}
 use borrow.Author.Tests.{ltb-true, ltb-false, lt-ltb, le-ltb, le-leb, lt-leb, leb-true, leb-false}
 use Rattle.arithmetic.specs.Words.{signedOf, leaves}
 
@@ -54,6 +54,25 @@ d-neg (negsuc n) a b h = omega arith
 d-minus : (z y : ℤ) (a b c d : ℕ) → Diff z a b → Diff y c d → Diff (z -ℤ y) (a + d) (b + c)
 d-minus z y a b c d h l = d-add z (negℤ y) a b d c h (d-neg y c d l)
 
+-- two integers against each other
+d-same : (z y : ℤ) (a b c d : ℕ) → Diff z a b → Diff y c d → a + d ≡ c + b → z ≡ y
+d-same (pos m) (pos n) a b c d h l e = ap pos (omega arith)
+d-same (pos m) (negsuc n) a b c d h l e = absurd (omega arith)
+d-same (negsuc m) (pos n) a b c d h l e = absurd (omega arith)
+d-same (negsuc m) (negsuc n) a b c d h l e = ap negsuc (omega arith)
+
+d-le : (z y : ℤ) (a b c d : ℕ) → Diff z a b → Diff y c d → a + d ≤ c + b → T (leZ z y)
+d-le (pos m) (pos n) a b c d h l e = le→leb m n (omega arith)
+d-le (pos m) (negsuc n) a b c d h l e = absurd (omega arith)
+d-le (negsuc m) (pos n) a b c d h l e = tt
+d-le (negsuc m) (negsuc n) a b c d h l e = le→leb n m (omega arith)
+
+d-lt : (z y : ℤ) (a b c d : ℕ) → Diff z a b → Diff y c d → a + d < c + b → T (ltZ z y)
+d-lt (pos m) (pos n) a b c d h l e = lt→ltb m n (omega arith)
+d-lt (pos m) (negsuc n) a b c d h l e = absurd (omega arith)
+d-lt (negsuc m) (pos n) a b c d h l e = tt
+d-lt (negsuc m) (negsuc n) a b c d h l e = lt→ltb n m (omega arith)
+
 -- at or above h, and below -h
 d-high : (z : ℤ) (a b h : ℕ) → Diff z a b → leZ (pos h) z ≡ leb (h + b) a
 d-high (pos n) a b h e = same-leb h n (h + b) a (λ l. omega arith) (λ l. omega arith)
@@ -100,6 +119,15 @@ is-add {z} {y} {a} {b} {c} {d} h l = record { diff = d-add z y a b c d (h .diff)
 
 pub is-minus : {z y : ℤ} {a b c d : ℕ} → Is z a b → Is y c d → Is (z -ℤ y) (a + d) (b + c)
 is-minus {z} {y} {a} {b} {c} {d} h l = record { diff = d-minus z y a b c d (h .diff) (l .diff) }
+
+pub is-same : {z y : ℤ} {a b c d : ℕ} → Is z a b → Is y c d → a + d ≡ c + b → z ≡ y
+is-same {z} {y} {a} {b} {c} {d} h l e = d-same z y a b c d (h .diff) (l .diff) e
+
+pub is-le : {z y : ℤ} {a b c d : ℕ} → Is z a b → Is y c d → a + d ≤ c + b → z ≤ℤ y
+is-le {z} {y} {a} {b} {c} {d} h l e = leZ-yes (d-le z y a b c d (h .diff) (l .diff) e)
+
+pub is-lt : {z y : ℤ} {a b c d : ℕ} → Is z a b → Is y c d → a + d < c + b → z <ℤ y
+is-lt {z} {y} {a} {b} {c} {d} h l e = ltZ-yes (d-lt z y a b c d (h .diff) (l .diff) e)
 
 pub is-leaves : (k : ℕ) {z : ℤ} {a b : ℕ} → Is z a b → leaves k z ≡ (ltb (a + 2 ^ k) b || leb (2 ^ k + b) a)
 is-leaves k {z} {a} {b} h = d-leaves k z a b (h .diff)

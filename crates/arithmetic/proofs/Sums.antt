@@ -1,7 +1,7 @@
 -- One law for sums and one for differences, at every width: a word r and a bit d that make the equation of values true are the result and
 -- the carry, and the overflow is read off the three top bits.
 use Prim.Native.Nat.{ℕ, suc, _+_, _-_, _*_, _%_, _^_, _≤_, _<_}
-use mathlib.Core.Path.{_≡_, refl, sym, ap, ap₂, _∙_}
+use mathlib.Core.Path.{_≡_, refl, sym, ap, ap₂, subst, _∙_}
 use mathlib.Core.Bool.{Bool, true, false, not, _||_, xor}
 use native.Mathlib.Nat.{pow-suc, mod-eq-of-lt, add-mul-mod-self-right}
 use native.Mathlib.Omega.{arith}
@@ -9,6 +9,7 @@ use lib.Dec.{ltb, leb}
 use lib.IntN.{ℤ}
 use lib.Pow.{pow-pos}
 use borrow.Author.Tests.{lt-ltb, le-ltb, le-leb, lt-leb, leb-true, leb-false}
+use Rattle.arithmetic.specs.declared.AluOut.{AluOut}
 use Rattle.arithmetic.specs.Words.{asNumber, topOf, overflowOf, leaves}
 use Rattle.arithmetic.specs.Alu.{answer, plainOf, sumOf, differenceOf}
 use Rattle.arithmetic.proofs.Bits.{one, three, bit-le}
@@ -18,7 +19,7 @@ pub same-answer : (k : ℕ) {r r′ : ℕ} {c c′ v v′ : Bool} → r ≡ r′
 same-answer k p q s = λ i. answer k (p i) (q i) (s i)
 
 -- what a top bit says
-abbrev Top : Bool → ℕ → ℕ → Type 0
+abbrev pub Top : Bool → ℕ → ℕ → Type 0
 Top true h x = h ≤ x
 Top false h x = x < h
 
@@ -26,12 +27,12 @@ top-says : (h x : ℕ) (t : Bool) → leb h x ≡ t → Top t h x
 top-says h x true e = leb-true h x e
 top-says h x false e = leb-false h x e
 
-top-of : (k x : ℕ) → Top (topOf k x) (2 ^ k) x
+pub top-of : (k x : ℕ) → Top (topOf k x) (2 ^ k) x
 top-of k x = top-says (2 ^ k) x (topOf k x) refl
 
 -- The true value of a sum or difference, a - b, against the signed reading of its result, r - w: the two are equal, or off by m, the number
 -- of words.
-data Off (a b r w m : ℕ) : Bool → Type 0 where
+pub data Off (a b r w m : ℕ) : Bool → Type 0 where
   exact : a + w ≡ r + b → Off a b r w m false
   lower : a + w + m ≡ r + b → Off a b r w m true
   higher : a + w ≡ r + b + m → Off a b r w m true
@@ -94,6 +95,12 @@ turned-off x y r c wx wy wr m v (lower e) = higher (omega arith)
 turned-off x y r c wx wy wr m v (higher e) = lower (omega arith)
 
 module _ (k x y r : ℕ) (c d : Bool) (hx : x < 2 ^ suc k) (hy : y < 2 ^ suc k) (hr : r < 2 ^ suc k) where
+  -- a sum and its signed reading
+  pub signed-sum : r + asNumber d * 2 ^ suc k ≡ x + y + asNumber c
+      → Off (x + y + asNumber c) (weight (topOf k x) (2 ^ suc k) + weight (topOf k y) (2 ^ suc k)) r (weight (topOf k r) (2 ^ suc k)) (2 ^ suc k)
+      (overflowOf (topOf k x) (topOf k y) (topOf k r))
+  signed-sum = sum-off (2 ^ k) (2 ^ suc k) x y r c (pow-suc 2 k) hx hy hr (bit-le c) (topOf k x) (topOf k y) (topOf k r) d (top-of k x) (top-of k y) (top-of k r)
+
   -- the law of sums
   pub sum-is : r + asNumber d * 2 ^ suc k ≡ x + y + asNumber c
       → answer k r d (overflowOf (topOf k x) (topOf k y) (topOf k r)) ≡ sumOf k x y c
@@ -105,7 +112,15 @@ module _ (k x y r : ℕ) (c d : Bool) (hx : x < 2 ^ suc k) (hy : y < 2 ^ suc k) 
       (sum-carry (2 ^ k) (2 ^ suc k) x y r c (pow-suc 2 k) hx hy hr (bit-le c) d e)
       (off-leaves k r _
       (is-move {c = x + y + asNumber c} {d = weight (topOf k x) (2 ^ suc k) + weight (topOf k y) (2 ^ suc k)} (is-add (is-add (is-signed k x) (is-signed k y)) (is-pos (asNumber c))) (omega arith)) hr
-      (sum-off (2 ^ k) (2 ^ suc k) x y r c (pow-suc 2 k) hx hy hr (bit-le c) (topOf k x) (topOf k y) (topOf k r) d (top-of k x) (top-of k y) (top-of k r) e)))
+      (signed-sum e)))
+
+  -- a difference and its signed reading
+  pub signed-difference : r + (y + asNumber c) ≡ x + asNumber d * 2 ^ suc k
+      → Off (x + weight (topOf k y) (2 ^ suc k)) (weight (topOf k x) (2 ^ suc k) + (y + asNumber c)) r (weight (topOf k r) (2 ^ suc k)) (2 ^ suc k)
+      (overflowOf (topOf k r) (topOf k y) (topOf k x))
+  signed-difference e =
+      turned-off x y r (asNumber c) _ _ _ (2 ^ suc k) _
+      (sum-off (2 ^ k) (2 ^ suc k) r y x c (pow-suc 2 k) hr hy hx (bit-le c) (topOf k r) (topOf k y) (topOf k x) d (top-of k r) (top-of k y) (top-of k x) (omega arith))
 
   -- the law of differences
   pub difference-is : r + (y + asNumber c) ≡ x + asNumber d * 2 ^ suc k
@@ -118,8 +133,31 @@ module _ (k x y r : ℕ) (c d : Bool) (hx : x < 2 ^ suc k) (hy : y < 2 ^ suc k) 
       (diff-carry (2 ^ k) (2 ^ suc k) x y r c (pow-suc 2 k) hx hy hr (bit-le c) d e)
       (off-leaves k r _
       (is-move {c = x + weight (topOf k y) (2 ^ suc k)} {d = weight (topOf k x) (2 ^ suc k) + (y + asNumber c)} (is-minus (is-minus (is-signed k x) (is-signed k y)) (is-pos (asNumber c))) (omega arith)) hr
-      (turned-off x y r (asNumber c) _ _ _ (2 ^ suc k) _
-      (sum-off (2 ^ k) (2 ^ suc k) r y x c (pow-suc 2 k) hr hy hx (bit-le c) (topOf k r) (topOf k y) (topOf k x) d (top-of k r) (top-of k y) (top-of k x) (omega arith)))))
+      (signed-difference e)))
+
+-- what holds of every word and bit that make the equation true holds of the sum, and of the difference
+module _ (P : AluOut → Type 0) (k x y : ℕ) (c : Bool) (hx : x < 2 ^ suc k) (hy : y < 2 ^ suc k) where
+  pub sum-by : ((r : ℕ) (d : Bool) → r < 2 ^ suc k → r + asNumber d * 2 ^ suc k ≡ x + y + asNumber c → P (answer k r d (overflowOf (topOf k x) (topOf k y) (topOf k r))))
+      → P (sumOf k x y c)
+  sum-by f = go (leb (2 ^ suc k) (x + y + asNumber c)) refl
+    where
+      with-carry : (r : ℕ) (d : Bool) → r < 2 ^ suc k → r + asNumber d * 2 ^ suc k ≡ x + y + asNumber c → P (sumOf k x y c)
+      with-carry r d hr e = subst P (sum-is k x y r c d hx hy hr e) (f r d hr e)
+
+      go : (t : Bool) → leb (2 ^ suc k) (x + y + asNumber c) ≡ t → P (sumOf k x y c)
+      go true e = let h : 2 ^ suc k ≤ x + y + asNumber c = leb-true (2 ^ suc k) (x + y + asNumber c) e in with-carry (x + y + asNumber c - 2 ^ suc k) true (omega (arith, bit-le c)) (omega arith)
+      go false e = let h : x + y + asNumber c < 2 ^ suc k = leb-false (2 ^ suc k) (x + y + asNumber c) e in with-carry (x + y + asNumber c) false h (omega arith)
+
+  pub difference-by : ((r : ℕ) (d : Bool) → r < 2 ^ suc k → r + (y + asNumber c) ≡ x + asNumber d * 2 ^ suc k → P (answer k r d (overflowOf (topOf k r) (topOf k y) (topOf k x))))
+      → P (differenceOf k x y c)
+  difference-by f = go (leb (y + asNumber c) x) refl
+    where
+      with-borrow : (r : ℕ) (d : Bool) → r < 2 ^ suc k → r + (y + asNumber c) ≡ x + asNumber d * 2 ^ suc k → P (differenceOf k x y c)
+      with-borrow r d hr e = subst P (difference-is k x y r c d hx hy hr e) (f r d hr e)
+
+      go : (t : Bool) → leb (y + asNumber c) x ≡ t → P (differenceOf k x y c)
+      go true e = let h : y + asNumber c ≤ x = leb-true (y + asNumber c) x e in with-borrow (x - (y + asNumber c)) false (omega arith) (omega arith)
+      go false e = let h : x < y + asNumber c = leb-false (y + asNumber c) x e in with-borrow (x + 2 ^ suc k - (y + asNumber c)) true (omega arith) (omega (arith, bit-le c))
 
 -- a difference is a sum with the complement, and the carry turned round
 pub turned : (r x y q m : ℕ) (d c : Bool) → q + y + 1 ≡ m → r + asNumber d * m ≡ x + q + asNumber (not c) → r + (y + asNumber c) ≡ x + asNumber (xor d true) * m
@@ -142,7 +180,7 @@ unfolding xor
 turned-overflow = three _ refl refl refl refl refl refl refl refl
 
 -- nothing and x, or x and nothing, add up to x, without carry and overflow
-none-top : (k : ℕ) → topOf k 0 ≡ false
+pub none-top : (k : ℕ) → topOf k 0 ≡ false
 none-top k = lt-leb (2 ^ k) 0 (pow-pos k)
 
 pub none-and : (k x : ℕ) → x < 2 ^ suc k → sumOf k 0 x false ≡ plainOf k x

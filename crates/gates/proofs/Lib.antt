@@ -1,2 +1,3 @@
 mod Turns
 mod Ranges
+pub mod Meaning

@@ -2,7 +2,7 @@
 
 use harness::arguments::{numbers, value};
 use harness::differential::{
-    directed, gates, images, limits, long, misfits, programs, refusals, vectors, Check,
+    directed, gates, images, limits, long, misfits, programs, refusals, sums, vectors, Check,
 };
 use reference::rng::Rng;
 use std::process::exit;
@@ -36,6 +36,11 @@ fn main() {
     check_directed(seed);
     let vectors = settle(vectors::check(), "outside vectors");
     println!("{vectors} outside vectors agree");
+    let sums = settle(
+        sums::check(&mut Rng::new(seed)),
+        &format!("what sums mean, --seed {seed}"),
+    );
+    println!("{sums} sums and halves mean what they must, seed {seed}");
     check_refusals(seed);
     println!("differential: all agree");
 }

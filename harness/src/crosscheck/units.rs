@@ -26,12 +26,12 @@ pub struct Adder {
 
 pub const RIPPLE: Adder = Adder {
     number: 0,
-    unit: |operation, a, b, carry| gate_alu_around(ripple_add, operation, a, b, carry),
+    unit: |operation, a, b, carry| gate_alu_around(ripple_add::<32>, operation, a, b, carry),
 };
 
 pub const HALVES: Adder = Adder {
     number: 1,
-    unit: |operation, a, b, carry| gate_alu_around(halves_add, operation, a, b, carry),
+    unit: |operation, a, b, carry| gate_alu_around(halves_add::<32>, operation, a, b, carry),
 };
 
 pub enum Case {

@@ -1,5 +1,6 @@
 //! The proved calls against the reference emulator on generated and directed cases.
 
+mod alone;
 pub mod directed;
 mod expected;
 pub mod gates;
@@ -12,6 +13,7 @@ mod outcome;
 pub mod programs;
 mod proved;
 pub mod refusals;
+pub mod sums;
 pub mod vectors;
 
 use crate::text::hex_bytes;

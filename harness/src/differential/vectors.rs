@@ -1,15 +1,13 @@
 //! The outside vectors through the library: what they say is expected, and not
 //! what the reference makes of them.
 
+use super::alone::{alone, machine, CLOCKS};
 use super::lent::guard;
 use super::outcome::Outcome;
 use super::{proved, same, Check};
-use crate::words::{compute, machine_words};
+use crate::words::machine_words;
 use reference::vectors::{vectors, Vector};
-use reference::{Flags, GateState, Machine, Operand};
-
-/// An instruction on registers that stores its result.
-const CLOCKS: u64 = 9;
+use reference::{Flags, GateState};
 
 /// Returns how many vectors there are.
 pub fn check() -> Result<usize, String> {
@@ -20,12 +18,9 @@ pub fn check() -> Result<usize, String> {
     Ok(vectors.len())
 }
 
-/// As an instruction on r1 and r2 with all flags permitted, in each kind of run.
+/// In each kind of run.
 fn check_vector(vector: &Vector) -> Check {
-    let [a, b] = [Operand::Direct(1), Operand::Direct(2)];
-    let memory = [compute(vector.operation, [true; 4], a, b)];
-    let carry = Flags::from_array([vector.carry_in, false, false, false]);
-    let start = machine(0, vector.a, vector.b, carry);
+    let (memory, start) = alone(vector.operation, vector.a, vector.b, vector.carry_in);
     let flags = [
         vector.carry,
         vector.overflow,
@@ -35,8 +30,8 @@ fn check_vector(vector: &Vector) -> Check {
     let end = machine(1, vector.a, vector.result, Flags::from_array(flags));
     let case = || {
         format!(
-            "operation {} a {:08X} b {:08X} {carry:?}\n",
-            vector.operation, vector.a, vector.b
+            "operation {} a {:08X} b {:08X} {:?}\n",
+            vector.operation, vector.a, vector.b, start.flags
         )
     };
 
@@ -59,11 +54,4 @@ fn check_vector(vector: &Vector) -> Check {
     expected.result = vec![1];
     expected.journal.clear();
     same("gate run", &proved, &expected, case)
-}
-
-fn machine(r0: u32, r1: u32, r2: u32, flags: Flags) -> Machine {
-    Machine {
-        registers: [r0, r1, r2, 0, 0, 0, 0, 0],
-        flags,
-    }
 }
