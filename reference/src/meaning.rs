@@ -1,4 +1,4 @@
-//! What the unit's words mean as integers (CR 13), at every width from 1 bit up.
+//! What the unit's words mean as integers (CR 13), at any width from 1 to 32 bits.
 
 use crate::alu::AluResult;
 use std::fmt;
@@ -6,7 +6,20 @@ use std::fmt;
 /// The operations that have a meaning in integers.
 const MEANT: [u8; 8] = [1, 2, 3, 4, 5, 6, 7, 9];
 
-/// One use of a unit of `width` bits, at most 32, with the move bit 0.
+/// Words next to the ends of the signed and of the unsigned numbers of 32 bits.
+pub const ENDS: [u32; 9] = [
+    0,
+    1,
+    2,
+    0x7FFF_FFFE,
+    0x7FFF_FFFF,
+    0x8000_0000,
+    0x8000_0001,
+    0xFFFF_FFFE,
+    0xFFFF_FFFF,
+];
+
+/// One use of a unit of `width` bits, with the move bit 0.
 #[derive(Clone, Copy)]
 pub struct Use {
     pub width: u32,
@@ -47,7 +60,8 @@ impl Use {
         MEANT.into_iter().flat_map(cases)
     }
 
-    /// Whether the unit's answer, with C and V as computed, means what it must.
+    /// Whether the unit's answer, with C and V as computed, means what it must. Of
+    /// other operations nothing is asked.
     pub fn means(&self, answer: &AluResult) -> bool {
         self.means_signed(answer) && self.means_unsigned(answer)
     }
@@ -59,7 +73,7 @@ impl Use {
         match self.operation {
             1..=7 => {
                 let exact = self.exact(a, self.signed(self.b));
-                self.is_off(exact, result, answer.flags.overflow)
+                self.flag_tells(exact, result, answer.flags.overflow)
             }
             // Halving rounded down, for negative numbers too.
             9 => result == a.div_euclid(2),
@@ -71,12 +85,12 @@ impl Use {
     fn means_unsigned(&self, answer: &AluResult) -> bool {
         let exact = || self.exact(self.a.into(), self.b.into());
         match self.operation {
-            1..=3 => self.is_off(exact(), answer.word.into(), answer.flags.carry),
+            1..=3 => self.flag_tells(exact(), answer.word.into(), answer.flags.carry),
             _ => true,
         }
     }
 
-    /// The integer that 1 to 7 ask for, of two integers of any size.
+    /// The integer that 1 to 7 ask for, of the signed or of the unsigned readings.
     fn exact(&self, a: i64, b: i64) -> i64 {
         let c = i64::from(self.carry);
         match self.operation {
@@ -93,7 +107,7 @@ impl Use {
 
     /// Right where the flag is 0; where it is 1, 2^w too low if the exact result is
     /// positive and 2^w too high if it is negative. It is never 0 then.
-    fn is_off(&self, exact: i64, result: i64, flag: bool) -> bool {
+    fn flag_tells(&self, exact: i64, result: i64, flag: bool) -> bool {
         let words = 1_i64 << self.width;
         match (flag, exact.signum()) {
             (false, _) => result == exact,

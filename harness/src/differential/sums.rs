@@ -2,28 +2,17 @@
 //! instruction leaves, read as integers, and not what the reference's unit gives.
 
 use super::alone::{alone, CLOCKS};
+use super::outcome::Outcome;
 use super::{proved, Check};
 use crate::words::machine_of;
+use fm8502::library::DONE;
 use reference::alu::AluResult;
 use reference::generate::pair::pair;
-use reference::meaning::Use;
+use reference::meaning::{Use, ENDS};
 use reference::rng::Rng;
 use reference::GateState;
 
 const RANDOM_PAIRS: usize = 1_000;
-
-/// The ends of the signed and of the unsigned numbers, and words next to them.
-const ENDS: [u32; 9] = [
-    0,
-    1,
-    2,
-    0x7FFF_FFFE,
-    0x7FFF_FFFF,
-    0x8000_0000,
-    0x8000_0001,
-    0xFFFF_FFFE,
-    0xFFFF_FFFF,
-];
 
 /// Returns how many uses of the unit there are.
 pub fn check(rng: &mut Rng) -> Result<usize, String> {
@@ -41,19 +30,22 @@ pub fn check(rng: &mut Rng) -> Result<usize, String> {
 /// In the interpreter and in the gate machine.
 fn check_use(case: &Use) -> Check {
     let (memory, start) = alone(case.operation, case.a, case.b, case.carry);
-    let runs = [
-        proved::run(&memory, &[], &start, 1),
-        proved::gate_run(&memory, &[], &GateState::start(start), CLOCKS),
-    ];
-    for outcome in runs {
-        let machine = machine_of(&outcome.words);
-        let answer = AluResult {
-            word: machine.registers[2],
-            flags: machine.flags,
-        };
-        if !case.means(&answer) {
-            return Err(format!("{case}: not what this means\n{outcome}"));
-        }
+    let run = proved::run(&memory, &[], &start, 1);
+    check_meaning("run", case, &run)?;
+    let gate_run = proved::gate_run(&memory, &[], &GateState::start(start), CLOCKS);
+    check_meaning("gate run", case, &gate_run)
+}
+
+fn check_meaning(call: &str, case: &Use, outcome: &Outcome) -> Check {
+    let machine = machine_of(&outcome.words);
+    let answer = AluResult {
+        word: machine.registers[2],
+        flags: machine.flags,
+    };
+    if outcome.code == DONE && !outcome.strayed && case.means(&answer) {
+        return Ok(());
     }
-    Ok(())
+    Err(format!(
+        "{call}: {case}: the result does not mean what it must\n{outcome}"
+    ))
 }
