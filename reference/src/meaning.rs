@@ -60,66 +60,77 @@ impl Use {
         MEANT.into_iter().flat_map(cases)
     }
 
-    /// Whether the unit's answer, with C and V as computed, means what it must. Of
-    /// other operations nothing is asked.
+    /// Whether an answer, with C and V as computed, meets all that CR 13 states of
+    /// this use. Of other operations it states nothing.
     pub fn means(&self, answer: &AluResult) -> bool {
-        self.means_signed(answer) && self.means_unsigned(answer)
+        self.means_signed(answer) && self.means_halved(answer) && self.means_unsigned(answer)
     }
 
-    /// 1 to 7 with V, and 9.
+    /// "For operations 1 to 7, wherever V is 0 the signed result is the true integer
+    /// result", and what follows it.
     fn means_signed(&self, answer: &AluResult) -> bool {
-        let result = self.signed(answer.word);
-        let a = self.signed(self.a);
-        match self.operation {
-            1..=7 => {
-                let exact = self.exact(a, self.signed(self.b));
-                self.flag_tells(exact, result, answer.flags.overflow)
+        match self.true_result(self.signed(self.a), self.signed(self.b)) {
+            Some(exact) => {
+                self.exact_or_off(self.signed(answer.word), exact, answer.flags.overflow)
             }
-            // Halving rounded down, for negative numbers too.
-            9 => result == a.div_euclid(2),
-            _ => true,
+            None => true,
         }
     }
 
-    /// 1 to 3 with C.
+    /// "Operation 9 is halving rounded down, for negative numbers too."
+    fn means_halved(&self, answer: &AluResult) -> bool {
+        self.operation != 9 || self.signed(answer.word) == self.signed(self.a).div_euclid(2)
+    }
+
+    /// "For 1 to 3 the same is shown of unsigned numbers and C."
     fn means_unsigned(&self, answer: &AluResult) -> bool {
-        let exact = || self.exact(self.a.into(), self.b.into());
-        match self.operation {
-            1..=3 => self.flag_tells(exact(), answer.word.into(), answer.flags.carry),
+        match self.true_result(self.a.into(), self.b.into()) {
+            Some(exact) if self.operation <= 3 => {
+                self.exact_or_off(answer.word.into(), exact, answer.flags.carry)
+            }
             _ => true,
         }
     }
 
-    /// The integer that 1 to 7 ask for, of the signed or of the unsigned readings.
-    fn exact(&self, a: i64, b: i64) -> i64 {
+    /// The true integer result of 1 to 7, however the words were read. The 1, the 0
+    /// and the carry are integers, not words, which at 1 bit would be read as -1.
+    fn true_result(&self, a: i64, b: i64) -> Option<i64> {
         let c = i64::from(self.carry);
         match self.operation {
-            1 => a + 1,
-            2 => b + a + c,
-            3 => b + a,
-            4 => -a,
-            5 => a - 1,
-            6 => b - a - c,
-            7 => b - a,
-            other => panic!("operation {other} is no sum"),
+            1 => Some(a + 1),
+            2 => Some(b + a + c),
+            3 => Some(b + a),
+            4 => Some(0 - a),
+            5 => Some(a - 1),
+            6 => Some(b - a - c),
+            7 => Some(b - a),
+            _ => None,
         }
     }
 
-    /// Right where the flag is 0; where it is 1, 2^w too low if the exact result is
-    /// positive and 2^w too high if it is negative. It is never 0 then.
-    fn flag_tells(&self, exact: i64, result: i64, flag: bool) -> bool {
+    /// "Wherever V is 0 the signed result is the true integer result; wherever V is 1
+    /// it is off by exactly 2^w, down if the true result is positive, up if negative."
+    /// No word is 2^w off 0, so a true result of 0 with the flag is refused too.
+    fn exact_or_off(&self, seen: i64, exact: i64, flag: bool) -> bool {
+        if !flag {
+            return seen == exact;
+        }
         let words = 1_i64 << self.width;
-        match (flag, exact.signum()) {
-            (false, _) => result == exact,
-            (true, 1) => result == exact - words,
-            (true, -1) => result == exact + words,
-            _ => false,
-        }
+        let off = seen - exact;
+        let by_exactly = off.abs() == words;
+        let down_if_positive = exact <= 0 || off == -words;
+        let up_if_negative = exact >= 0 || off == words;
+        by_exactly && down_if_positive && up_if_negative
     }
 
-    /// A word with the top bit 1 is a negative number.
+    /// The top bit weighs -2^(w-1).
     fn signed(&self, word: u32) -> i64 {
-        let unused = 32 - self.width;
-        i64::from((word << unused) as i32 >> unused)
+        let words = 1_i64 << self.width;
+        let word = i64::from(word);
+        if word >= words / 2 {
+            word - words
+        } else {
+            word
+        }
     }
 }

@@ -13,17 +13,9 @@ use Rattle.arithmetic.specs.Words.{asNumber, topOf, signedOf}
 use Rattle.arithmetic.specs.Alu.{answer, sumOf, differenceOf, halvedOf, answers, aluAt}
 use Rattle.arithmetic.specs.Meaning.{FloorOfHalf, SignedMeans, UnsignedMeans, SignedSums, UnsignedSums, RoundsDown, SumsMeaning}
 use Rattle.arithmetic.proofs.Integers.{Is, weight, is-pos, is-move, is-add, is-minus, is-same, is-le, is-lt, is-signed}
-use Rattle.arithmetic.proofs.Sums.{Off, exact, lower, higher, Top, top-of, none-top, signed-sum, signed-difference, sum-by, difference-by}
+use Rattle.arithmetic.proofs.Sums.{Off, exact, lower, higher, Top, top-of, signed-range, none-top, signed-sum, signed-difference, sum-by, difference-by}
 
 -- ---- V and C
-
--- the signed reading takes away less than the word and the number of words
-weight-below : (k r : ℕ) → weight (topOf k r) (2 ^ suc k) < r + 2 ^ suc k
-weight-below k r = go (topOf k r) (top-of k r)
-  where
-    go : (t : Bool) → Top t (2 ^ k) r → weight t (2 ^ suc k) < r + 2 ^ suc k
-    go true h = omega (arith, pow-pos k)
-    go false h = omega (arith, pow-pos (suc k))
 
 signed-means : (k r : ℕ) (d : Bool) {v : Bool} {z : ℤ} {a b : ℕ} → r < 2 ^ suc k → Is z a b
     → Off a b r (weight (topOf k r) (2 ^ suc k)) (2 ^ suc k) v → SignedMeans k z (answer k r d v)
@@ -36,7 +28,7 @@ signed-means k r d hr i (lower e) =
 signed-means k r d hr i (higher e) =
     record {
       exact = λ q. absurd (true≢false q);
-      off = λ q. inl (is-lt (is-pos 0) i (omega (arith, weight-below k r)), is-same (is-signed k r) (is-minus i (is-pos (2 ^ suc k))) (omega arith));
+      off = λ q. inl (is-lt (is-pos 0) i (omega (arith, signed-range k r hr, pow-suc 2 k, pow-pos k)), is-same (is-signed k r) (is-minus i (is-pos (2 ^ suc k))) (omega arith));
     }
 
 unsigned-means : (k r : ℕ) (d v : Bool) {z : ℤ} {s : ℕ} → Is z s 0 → r + asNumber d * 2 ^ suc k ≡ s → UnsignedMeans k z (answer k r d v)

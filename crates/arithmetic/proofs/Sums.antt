@@ -37,14 +37,18 @@ pub data Off (a b r w m : ℕ) : Bool → Type 0 where
   lower : a + w + m ≡ r + b → Off a b r w m true
   higher : a + w ≡ r + b + m → Off a b r w m true
 
--- where they are off, and only there, the true value leaves the range of the signed readings
-off-leaves : (k r : ℕ) (v : Bool) {z : ℤ} {a b : ℕ} → Is z a b → r < 2 ^ suc k → Off a b r (weight (topOf k r) (2 ^ suc k)) (2 ^ suc k) v → leaves k z ≡ v
-off-leaves k r v {z} {a} {b} i hr o = is-leaves k i ∙ go v (signed (topOf k r) (top-of k r)) o
+-- the range of the signed readings
+pub signed-range : (k r : ℕ) → r < 2 ^ suc k → (weight (topOf k r) (2 ^ suc k) ≤ r + 2 ^ k) × (r < 2 ^ k + weight (topOf k r) (2 ^ suc k))
+signed-range k r hr = go (topOf k r) (top-of k r)
   where
-    signed : (t : Bool) → Top t (2 ^ k) r → (weight t (2 ^ suc k) ≤ r + 2 ^ k) × (r < 2 ^ k + weight t (2 ^ suc k))
-    signed true p = omega (arith, pow-suc 2 k)
-    signed false p = omega arith
+    go : (t : Bool) → Top t (2 ^ k) r → (weight t (2 ^ suc k) ≤ r + 2 ^ k) × (r < 2 ^ k + weight t (2 ^ suc k))
+    go true p = omega (arith, pow-suc 2 k)
+    go false p = omega arith
 
+-- where they are off, and only there, the true value leaves that range
+off-leaves : (k r : ℕ) (v : Bool) {z : ℤ} {a b : ℕ} → Is z a b → r < 2 ^ suc k → Off a b r (weight (topOf k r) (2 ^ suc k)) (2 ^ suc k) v → leaves k z ≡ v
+off-leaves k r v {z} {a} {b} i hr o = is-leaves k i ∙ go v (signed-range k r hr) o
+  where
     go : (v : Bool) {w : ℕ} → (w ≤ r + 2 ^ k) × (r < 2 ^ k + w) → Off a b r w (2 ^ suc k) v → (ltb (a + 2 ^ k) b || leb (2 ^ k + b) a) ≡ v
     go v n (exact e) = ap₂ (λ (x y : Bool). x || y) (le-ltb (a + 2 ^ k) b (omega arith)) (lt-leb (2 ^ k + b) a (omega arith))
     go v n (lower e) = ap (λ (x : Bool). x || leb (2 ^ k + b) a) (lt-ltb (a + 2 ^ k) b (omega (arith, pow-suc 2 k)))
