@@ -51,7 +51,7 @@ enum {
     FM8502_NEGATIVE = 10,
     FM8502_ZERO = 11,
     /* from here on the gate state alone */
-    FM8502_ROW = 12,     /* the row to be done next; 0: between instructions */
+    FM8502_ROW = 12,     /* the row to be done next, 0 to 12; 0: between instructions; 12: halted */
     FM8502_INSTRUCTION = 13,
     FM8502_ADDRESS = 14,
     FM8502_A = 15,
@@ -83,6 +83,7 @@ enum {
     FM8502_SHORT_MEMORY = 14,         /* the memory is shorter than the word count */
     FM8502_TRAILING_BYTES = 15,       /* bytes follow the end field */
     FM8502_STOPPED = 100,             /* carried out: "outside", or "undone" for a file run */
+    FM8502_HALTED = 101,              /* carried out: "no instruction"; fm8502_run alone */
     FM8502_MISFIT = 200               /* machine, state or result of another length than named */
 };
 
@@ -96,12 +97,13 @@ enum {
  */
 
 /*
- * Runs up to count instructions, and stops before one that needs a word that the
- * memory does not have (FM8502_STOPPED). Memory and machine are then those before
- * that instruction.
+ * Runs up to count instructions. Stops before one that needs a word that the
+ * memory does not have (FM8502_STOPPED), and before a word that is no instruction:
+ * bit 14 or one of bits 20 to 31 is 1 (FM8502_HALTED; what its operands need is
+ * not looked at). Memory and machine are then those before it.
  * The wait list is taken from its beginning.
  * result, 2 places: instructions that ran; their clock total, waits included.
- * Codes: 0, 1, 2, 3, 100, 200.
+ * Codes: 0, 1, 2, 3, 100, 101, 200.
  */
 uint32_t fm8502_run(uint32_t *memory, size_t memory_words, const uint16_t *waits,
                     size_t waits_entries, uint32_t *machine, size_t machine_words, uint32_t count,
@@ -110,9 +112,9 @@ uint32_t fm8502_run(uint32_t *memory, size_t memory_words, const uint16_t *waits
 /*
  * Runs up to count instructions, at most FM8502_MOST_INSTRUCTIONS, without waits.
  * Store number i to memory puts address and former word at journal[2 * i] and
- * journal[2 * i + 1]; other places do not change. Where fm8502_run would be
- * stopped, memory goes back to the start, machine is not written and the journal
- * keeps its pairs (FM8502_STOPPED: "undone").
+ * journal[2 * i + 1]; other places do not change. Where fm8502_run would
+ * stop or halt, memory goes back to the start, machine is not written and the
+ * journal keeps its pairs (FM8502_STOPPED: "undone").
  * journal: at least 2 * count places.
  * result, 2 places: instructions that ran, also if undone; pairs in the journal.
  * Codes: 0, 1, 2, 5, 6, 100, 200.
@@ -125,6 +127,8 @@ uint32_t fm8502_file_run(uint32_t *memory, size_t memory_words, uint32_t *journa
  * Does so many clocks of the gate machine. To start between instructions at the
  * head of the wait list: the machine's 12 words, and 0 in the other 9. A run that
  * follows on is lent the state as it was left, and goes on in the list from there.
+ * A word that is no instruction is read with its wait; then the machine is in row
+ * 12, where it stays, however many clocks follow.
  * result, 1 place: instructions finished in these clocks.
  * Codes: 0, 1, 2, 3, 4, 200.
  */

@@ -35,7 +35,9 @@ made crates/crosscheck/stdout "$bin/crosscheck_cases" stdout
 
 made examples/stacking.image "$make_image" -w examples/stacking.words -m 48 -r 1=18 -r 4=4 -r 5=3 -r 6=F
 made examples/outside.image "$make_image" -w examples/outside.words -m 11 -r 1=8 -r 2=4 -r 3=4
-made examples/stacking.ledger "$ledger" <examples/stacking.image
-made examples/outside.ledger "$ledger" <examples/outside.image
+made examples/halted.image "$make_image" -w examples/halted.words -r 1=7 -r 2=3 -r 3=4
+for name in stacking outside halted; do
+    made "examples/$name.ledger" "$ledger" <"examples/$name.image"
+done
 
 made bindings/expected.txt "$bin/example_text" examples

@@ -31,7 +31,25 @@ prints "r0 at the last address" "outside 0 0"
 # the word at 0 copies the word at r1 over the next address, r2, which then runs
 "$make_image" -r 1=3 -r 2=1 00000149 00000000 00010021 00010061 >"$work/input"
 prints "a program that stores over itself" "outside 4 38"
-for name in stacking outside; do
+# bit 14 and bits 20 to 31
+for bit in 14 {20..31}; do
+    "$make_image" 00010021 "$(printf %08X "$((0x00010021 | 1 << bit))")" >"$work/input"
+    prints "a word with bit $bit, which is no instruction" "halted 1 9"
+done
+"$make_image" -m 17 -r 1=7 00004000 >"$work/input"
+prints "the first word is no instruction" "halted 0 0"
+# sixteen instructions are run, and no word is looked at after them
+ones=$(printf '00010021 %.0s' {1..15})
+"$make_image" $ones 00010021 00100021 >"$work/input"
+prints "the seventeenth word is no instruction" "finished 16 144"
+"$make_image" $ones 00100021 >"$work/input"
+prints "the sixteenth word is no instruction" "halted 15 135"
+# the word at 0 copies r1 over the next address, r2: a word that is no instruction, and one that is
+"$make_image" -r 1=80010021 -r 2=1 00000141 00010021 >"$work/input"
+prints "a program that stores a word that is no instruction" "halted 1 10"
+"$make_image" -r 1=00010021 -r 2=1 00000141 80010021 >"$work/input"
+prints "a program that repairs a word that is no instruction" "outside 2 19"
+for name in stacking outside halted; do
     cp "examples/$name.image" "$work/input"
     prints "examples/$name.image" "$(tail -n 1 "examples/$name.ledger")"
 done

@@ -1,5 +1,6 @@
 /*
- * Stacks the traces of an image under a wait list, then rolls a file back.
+ * Stacks the traces of an image under a wait list, rolls a file back, and runs into
+ * a word that is no instruction.
  * Usage: example FOLDER, the folder of the example images.
  */
 #include "fm8502.h"
@@ -73,31 +74,41 @@ static void print_words(const char *name, const uint32_t *words, size_t count) {
     printf("\n");
 }
 
-static void stack(Card *card, const uint16_t *waits, size_t entries) {
-    uint32_t state[FM8502_STATE_SIZE] = {0};
-    memcpy(state, card->machine, sizeof card->machine);
-    Card copy = *card;
-    uint64_t result[2], finished;
-
+/* Runs the card, to the ending that is expected; returns the clock total. */
+static uint64_t run(Card *card, const uint16_t *waits, size_t entries, uint32_t expected,
+                    const char *ending) {
+    uint64_t result[2];
     expect("run",
            fm8502_run(card->memory, card->words, waits, entries, card->machine,
                       FM8502_MACHINE_SIZE, INSTRUCTIONS, result, 2),
-           FM8502_DONE);
-    printf("run: finished, %llu instructions, %llu clocks\n", (unsigned long long)result[0],
+           expected);
+    printf("run: %s, %llu instructions, %llu clocks\n", ending, (unsigned long long)result[0],
            (unsigned long long)result[1]);
+    return result[1];
+}
+
+static void run_gates(Card *card, const uint16_t *waits, size_t entries, uint64_t clocks) {
+    uint32_t state[FM8502_STATE_SIZE] = {0};
+    memcpy(state, card->machine, sizeof card->machine);
+    uint64_t finished;
+    expect("gate run",
+           fm8502_gate_run(card->memory, card->words, waits, entries, state, FM8502_STATE_SIZE,
+                           clocks, &finished, 1),
+           FM8502_DONE);
+    printf("gate machine: %llu instructions, row %u\n", (unsigned long long)finished,
+           (unsigned)state[FM8502_ROW]);
+}
+
+static void stack(Card *card, const uint16_t *waits, size_t entries) {
+    Card copy = *card;
+    uint64_t clocks = run(card, waits, entries, FM8502_DONE, "finished");
     const uint32_t *flags = card->machine + FM8502_CARRY;
     printf("flags %u%u%u%u\n", (unsigned)flags[0], (unsigned)flags[1], (unsigned)flags[2],
            (unsigned)flags[3]);
     print_words("registers", card->machine, 8);
     printf("traces %u\n", (unsigned)card->memory[TRACE_COUNT]);
     print_words("accumulators", card->memory + ACCUMULATORS, SAMPLES);
-
-    expect("gate run",
-           fm8502_gate_run(copy.memory, copy.words, waits, entries, state, FM8502_STATE_SIZE,
-                           result[1], &finished, 1),
-           FM8502_DONE);
-    printf("gate machine: %llu instructions, row %u\n", (unsigned long long)finished,
-           (unsigned)state[FM8502_ROW]);
+    run_gates(&copy, waits, entries, clocks);
 }
 
 static void roll_back(Card *card) {
@@ -122,6 +133,14 @@ static void roll_back(Card *card) {
     printf("short journal: refused %u\n", (unsigned)code);
 }
 
+static void halt(Card *card, const uint16_t *waits, size_t entries) {
+    Card copy = *card;
+    run(card, waits, entries, FM8502_HALTED, "no instruction");
+    uint32_t pc = card->machine[FM8502_R0], next[2] = {pc, card->memory[pc]};
+    print_words("next", next, 2);
+    run_gates(&copy, waits, entries, UINT64_MAX);
+}
+
 int main(int count, char **arguments) {
     const char *folder = count > 1 ? arguments[1] : "examples";
     uint16_t waits[MOST_WAITS];
@@ -130,5 +149,7 @@ int main(int count, char **arguments) {
     stack(&stacking, waits, entries);
     Card outside = load(folder, "outside.image");
     roll_back(&outside);
+    Card halted = load(folder, "halted.image");
+    halt(&halted, waits, entries);
     return 0;
 }

@@ -1,4 +1,5 @@
-"""What the module refuses, how a wait list goes on, and that arrays are lent without a copy.
+"""What the module refuses, how a wait list goes on, what a halting word does, and that arrays
+are lent without a copy.
 
 numpy is looked at where it is installed.
 """
@@ -86,6 +87,24 @@ def check_wait_list():
         refuses(fm8502.Refused, "refused 4", fm8502.gate_run, memory, lent, past, 0)
 
 
+def check_halted():
+    """A word that is no instruction ends a run, undoes a file run and keeps the gate machine in row 12."""
+    memory, waits = array("I", [PROGRAM[0], 1 << 14]), array("H", [3])
+    machine = fm8502.Machine()
+    ran = fm8502.run(memory, waits, machine, 5)
+    assert ran == fm8502.Run(finished=False, halted=True, ran=1, clocks=9 + 3)
+    assert machine.registers[:2] == [1, 1]
+    state = fm8502.GateState()
+    assert fm8502.gate_run(memory, waits, state, (1 << 64) - 1) == 1 and state.row == 12
+    assert not fm8502.clock(memory, waits, state) and state.row == 12
+    undone = fm8502.Machine()
+    assert fm8502.file_run(memory, array("I", [0] * 10), undone, 5) == fm8502.FileRun(False, 1, 0)
+    assert undone == fm8502.Machine()
+    # The next word is missing: outside, and not halted.
+    ran = fm8502.run(memory, waits, fm8502.Machine(registers=[2, 0, 0, 0, 0, 0, 0, 0]), 5)
+    assert not ran.finished and not ran.halted
+
+
 def check_numpy():
     """What is lent is the array itself, also a wait list and a part of an array."""
     words = numpy.array([*PROGRAM, 0, 0], dtype=numpy.uint32)
@@ -113,6 +132,7 @@ check_shared()
 check_shapes()
 check_undone()
 check_wait_list()
+check_halted()
 if numpy is not None:
     check_numpy()
 print("python: checked", "with numpy" if numpy is not None else "without numpy")

@@ -1,4 +1,5 @@
-"""Stacks the traces of an image under a wait list, then rolls a file back.
+"""Stacks the traces of an image under a wait list, rolls a file back, and runs into a word
+that is no instruction.
 
 Usage: example.py FOLDER, the folder of the example images.
 """
@@ -25,17 +26,27 @@ def load(folder, name):
     return memory, machine
 
 
-def stack(memory, waits, machine):
-    copied, state = memory[:], fm8502.GateState(copy.deepcopy(machine))
+def run(memory, waits, machine):
     ran = fm8502.run(memory, waits, machine, INSTRUCTIONS)
-    ending = "finished" if ran.finished else "outside"
+    ending = "finished" if ran.finished else "no instruction" if ran.halted else "outside"
     print(f"run: {ending}, {ran.ran} instructions, {ran.clocks} clocks")
+    return ran
+
+
+def run_gates(memory, waits, machine, clocks):
+    state = fm8502.GateState(machine)
+    finished = fm8502.gate_run(memory, waits, state, clocks)
+    print(f"gate machine: {finished} instructions, row {state.row}")
+
+
+def stack(memory, waits, machine):
+    start = memory[:], waits, copy.deepcopy(machine)
+    ran = run(memory, waits, machine)
     print("flags", "".join(str(int(flag)) for flag in machine.flags))
     print("registers" + words(machine.registers))
     print("traces", memory[TRACE_COUNT])
     print("accumulators" + words(memory[ACCUMULATORS]))
-    finished = fm8502.gate_run(copied, waits, state, ran.clocks)
-    print(f"gate machine: {finished} instructions, row {state.row}")
+    run_gates(*start, ran.clocks)
 
 
 def roll_back(memory, machine):
@@ -53,6 +64,14 @@ def roll_back(memory, machine):
         print("short journal: refused", refused.number)
 
 
+def halt(memory, waits, machine):
+    start = memory[:], waits, copy.deepcopy(machine)
+    run(memory, waits, machine)
+    pc = machine.registers[0]
+    print("next" + words([pc, memory[pc]]))
+    run_gates(*start, (1 << 64) - 1)
+
+
 def main():
     folder = Path(sys.argv[1] if len(sys.argv) > 1 else "examples")
     waits = array("H", map(int, (folder / "stacking.waits").read_text().split()))
@@ -60,6 +79,8 @@ def main():
     stack(memory, waits, machine)
     memory, machine = load(folder, "outside.image")
     roll_back(memory, machine)
+    memory, machine = load(folder, "halted.image")
+    halt(memory, waits, machine)
 
 
 main()

@@ -15,6 +15,7 @@ from pathlib import Path
 
 _DONE = 0
 _STOPPED = 100
+_HALTED = 101
 _MISFIT = 200
 
 # The paper's reasons to turn a call down, number 1 first.
@@ -67,7 +68,8 @@ class Machine:
 
 @dataclass
 class GateState:
-    """The gate machine between two clocks; by default, between instructions.
+    """The gate machine between two clocks; by default, between instructions. In row 12 it
+    has halted.
 
     position is that of the next entry of the wait list: below the list's length,
     or 0 for an empty list.
@@ -98,9 +100,11 @@ class GateState:
 
 @dataclass(frozen=True)
 class Run:
-    """How an interpreter run ended; not finished: outside."""
+    """How an interpreter run ended; not finished: outside, or halted, where the next
+    word is no instruction."""
 
     finished: bool
+    halted: bool
     ran: int
     # Clock total of the instructions that ran, their waits included.
     clocks: int
@@ -170,7 +174,7 @@ def _call(name, *arguments):
     call.restype = c_uint32
     code = call(*arguments)
     assert code != _MISFIT, "this module lends words and results of the lengths due"
-    if code not in (_DONE, _STOPPED):
+    if code not in (_DONE, _STOPPED, _HALTED):
         raise Refused(code)
     return code
 
@@ -208,11 +212,11 @@ def run(memory, waits, machine, count):
     """
     lent = _apart(_lent(c_uint32, memory), _shown(c_uint16, waits))
     code, result = _changing("run", lent, machine, [_count(count, 32)], 2)
-    return Run(finished=code == _DONE, ran=result[0], clocks=result[1])
+    return Run(finished=code == _DONE, halted=code == _HALTED, ran=result[0], clocks=result[1])
 
 
 def file_run(memory, journal, machine, count):
-    """Runs up to count instructions; a run that comes outside is taken back whole."""
+    """Runs up to count instructions; a run that stops before the end is taken back whole."""
     lent = _apart(_lent(c_uint32, memory), _lent(c_uint32, journal))
     code, result = _changing("file_run", lent, machine, [_count(count, 32)], 2)
     return FileRun(finished=code == _DONE, ran=result[0], pairs=result[1])

@@ -6,6 +6,9 @@
 #include "fm8502.h"
 #include <stdbool.h>
 
+// Bit 14 and bits 20-31: a word with one of them is no instruction.
+#define HALTING_BITS 0xFFF04000u
+
 // Called once in each loop, where a call would cost more than the work.
 #define INLINE static inline __attribute__((always_inline))
 

@@ -10,9 +10,12 @@ typedef struct {
     uint32_t left;
 } State;
 
+// Where the machine stays once it has read a word that is no instruction.
+enum { HALTED_ROW = 12 };
+
 // The row after each, where the instruction does not decide.
-static const uint8_t NEXT[12] = {1, 2, 3, 4, 5, 6, 7, 8, 10, 10, 11, 0};
-static const bool IS_ACCESS[12] = {0, 1, 0, 0, 1, 0, 1, 0, 0, 1, 0, 0};
+static const uint8_t NEXT[13] = {1, 2, 3, 4, 5, 6, 7, 8, 10, 10, 11, 0, HALTED_ROW};
+static const bool IS_ACCESS[13] = {0, 1, 0, 0, 1, 0, 1, 0, 0, 1, 0, 0, 0};
 
 enum { DIRECT = 0, BEFORE = 2, AFTER = 3 };
 
@@ -67,7 +70,10 @@ INLINE bool tick(State *s, uint32_t *memory, size_t words, const uint16_t *waits
     if (IS_ACCESS[row] && !access_completes(s, words, waits, entries)) return false;
     switch (row) {
     case 0: s->address = s->registers[0]; break;
-    case 1: s->instruction = memory[s->address]; break;
+    case 1:
+        s->instruction = memory[s->address];
+        if (s->instruction & HALTING_BITS) next = HALTED_ROW;
+        break;
     case 2: s->registers[0]++; break;
     case 3:
         if (take(s, i, &word)) {
@@ -89,7 +95,8 @@ INLINE bool tick(State *s, uint32_t *memory, size_t words, const uint16_t *waits
     case 8: s->registers[i >> 5 & 7] = s->result; break;
     case 9: memory[s->address] = s->result; break;
     case 10: step_up(s, i); break;
-    default: step_up(s, i >> 5);
+    case 11: step_up(s, i >> 5); break;
+    default: break;
     }
     s->row = next;
     return row == 11;

@@ -121,23 +121,26 @@ INLINE uint32_t store_word(Engine *e, uint32_t address, uint32_t former, uint32_
     return next_wait(e);
 }
 
-// One instruction; false, with the registers as they were, if a word is missing.
-INLINE bool step(Engine *e, Registers *g) {
+// One instruction; FM8502_DONE, or, with the registers as they were, the code of a run
+// that stops before it.
+INLINE uint32_t step(Engine *e, Registers *g) {
     uint32_t a, b, ignored, address = 0;
-    if (g->r[0] >= e->words) return false;
-    uint32_t word = e->memory[g->r[0]++];
+    if (g->r[0] >= e->words) return FM8502_STOPPED;
+    uint32_t word = e->memory[g->r[0]];
+    if (word & HALTING_BITS) return FM8502_HALTED;
+    g->r[0]++;
     uint32_t ra = word & 7, ma = word >> 3 & 3, rb = word >> 5 & 7, mb = word >> 8 & 3;
     uint64_t clocks = 8 + next_wait(e);
     if (!take(e, g, ma, ra, &a, &ignored, &clocks)) {
         if (ma == BEFORE) g->r[ra]++;
         g->r[0]--;
-        return false;
+        return FM8502_STOPPED;
     }
     if (!take(e, g, mb, rb, &b, &address, &clocks)) {
         if (mb == BEFORE) g->r[rb]++;
         if (ma == BEFORE) g->r[ra]++;
         g->r[0]--;
-        return false;
+        return FM8502_STOPPED;
     }
     bool stored;
     uint32_t result = compute(e, word, a, b, &stored);
@@ -151,7 +154,7 @@ INLINE bool step(Engine *e, Registers *g) {
     if (ma == AFTER) g->r[ra]++;
     if (mb == AFTER) g->r[rb]++;
     e->clocks += clocks;
-    return true;
+    return FM8502_DONE;
 }
 
 INLINE void take_machine(Engine *e, Registers *g, const uint32_t *machine) {
@@ -162,12 +165,14 @@ INLINE void take_machine(Engine *e, Registers *g, const uint32_t *machine) {
     e->zero = machine[FM8502_ZERO];
 }
 
-// Runs the machine; returns how many instructions ran.
-INLINE uint32_t go(Engine *e, Registers *g, const uint32_t *machine, uint32_t count) {
+// Runs the machine; returns the run's code, and how many instructions ran in *ran.
+INLINE uint32_t go(Engine *e, Registers *g, const uint32_t *machine, uint32_t count,
+                   uint64_t *ran) {
     take_machine(e, g, machine);
-    uint32_t ran = 0;
-    while (ran < count && step(e, g)) ran++;
-    return ran;
+    uint32_t done = 0, code = FM8502_DONE;
+    while (done < count && (code = step(e, g)) == FM8502_DONE) done++;
+    *ran = done;
+    return code;
 }
 
 INLINE void give_machine(const Engine *e, const Registers *g, uint32_t *machine) {
@@ -180,11 +185,10 @@ INLINE void give_machine(const Engine *e, const Registers *g, uint32_t *machine)
 
 INLINE uint32_t plain_run(Engine e, uint32_t *machine, uint32_t count, uint64_t *result) {
     Registers g;
-    uint32_t ran = go(&e, &g, machine, count);
+    uint32_t code = go(&e, &g, machine, count, &result[0]);
     give_machine(&e, &g, machine);
-    result[0] = ran;
     result[1] = e.clocks;
-    return ran == count ? FM8502_DONE : FM8502_STOPPED;
+    return code;
 }
 
 uint32_t baseline_run(uint32_t *memory, size_t memory_words, const uint16_t *waits,
@@ -200,10 +204,9 @@ uint32_t baseline_file_run(uint32_t *memory, size_t memory_words, uint32_t *jour
                            uint32_t *machine, uint32_t count, uint64_t *result) {
     Engine e = {.memory = memory, .words = memory_words, .journal = journal};
     Registers g;
-    uint32_t ran = go(&e, &g, machine, count);
-    result[0] = ran;
+    uint32_t code = go(&e, &g, machine, count, &result[0]);
     result[1] = e.filled / 2;
-    if (ran == count) {
+    if (code == FM8502_DONE) {
         give_machine(&e, &g, machine);
         return FM8502_DONE;
     }

@@ -1,11 +1,21 @@
-//! Flags and gate states as the generated cases have them.
+//! Flags, gate states and endings of runs as the generated cases have them.
 
-use reference::{Flags, GateState};
+use reference::{Answer, Flags, GateState, Stop};
 
 /// C, V, N, Z as the bits of a number, C the highest.
 pub fn flag_number(flags: Flags) -> u32 {
     let bits = flags.to_array().map(u32::from);
     bits.iter().fold(0, |number, bit| 2 * number + bit)
+}
+
+/// How a run that was not refused ended: 0 finished, 1 outside, 2 no instruction.
+pub fn ending_number(answer: Answer) -> u32 {
+    match answer {
+        Answer::Finished => 0,
+        Answer::Stopped(Stop::Outside) => 1,
+        Answer::Stopped(Stop::NoInstruction) => 2,
+        Answer::Refused(refusal) => panic!("a run is refused with {refusal}"),
+    }
 }
 
 /// What a gate state has besides registers and flags: row, latches, list

@@ -12,6 +12,8 @@ pub mod baseline;
 #[cfg(feature = "library")]
 pub mod bench;
 #[cfg(feature = "library")]
+pub mod codes;
+#[cfg(feature = "library")]
 pub mod differential;
 #[cfg(feature = "library")]
 pub mod words;

@@ -1,4 +1,4 @@
-//! The file run: an interpreter run that a missing word undoes as a whole.
+//! The file run: an interpreter run that is undone as a whole where it stops early.
 
 use crate::interpreter::step;
 use crate::machine::Machine;
@@ -11,7 +11,7 @@ pub const MOST_INSTRUCTIONS: u32 = 65_536;
 #[derive(Clone, Copy, Debug, PartialEq, Eq)]
 pub enum FileAnswer {
     Finished,
-    /// An instruction needed a missing word; memory and machine are as at the start.
+    /// The interpreter would have stopped; memory and machine are as at the start.
     Undone,
     Refused(Refusal),
 }
@@ -39,7 +39,7 @@ pub fn file_run(memory: &mut [u32], journal: &mut [u32], start: Machine, count: 
         return result;
     }
     while result.ran < count {
-        let Some(step) = step(memory, &mut result.machine) else {
+        let Ok(step) = step(memory, &mut result.machine) else {
             undo(memory, &journal[..2 * result.pairs as usize]);
             result.machine = start;
             result.answer = FileAnswer::Undone;

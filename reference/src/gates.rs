@@ -1,10 +1,14 @@
-//! The gate machine: document 01's twelve rows, one of them on each clock, and
-//! document 02's wait list, which begins again at its end (CR 3).
+//! The gate machine: document 01's twelve rows, one of them on each clock; document
+//! 02's wait list, which begins again at its end (CR 3); and its row 12, in which the
+//! machine stays halted (CR 5).
 
 use crate::gate_alu::gate_alu;
-use crate::instruction::{Instruction, Operand};
+use crate::instruction::{is_instruction, Instruction, Operand};
 use crate::machine::{Flags, Machine};
 use crate::refusal::{check_memory, check_waits, Refusal};
+
+/// Entered when the word read is no instruction, and never left (CR 5).
+pub const HALTED_ROW: u8 = 12;
 
 /// The state between two clocks.
 #[derive(Clone, Copy, Debug, Default, PartialEq, Eq)]
@@ -61,8 +65,9 @@ pub struct GateResult {
 enum Clock {
     Moved,
     Finished,
-    /// The address is absent; nothing changed.
-    Stalled,
+    /// Nothing changed, nor will on any later clock: the address is absent, or the
+    /// machine has halted.
+    Stuck,
 }
 
 /// Does `clocks` clocks.
@@ -79,8 +84,7 @@ pub fn gate_run(memory: &mut [u32], waits: &[u16], state: GateState, clocks: u64
         match clock(memory, waits, &mut result.state) {
             Clock::Moved => {}
             Clock::Finished => result.finished += 1,
-            // All clocks to come would stall as well and change nothing.
-            Clock::Stalled => break,
+            Clock::Stuck => break,
         }
     }
     result
@@ -101,7 +105,7 @@ fn check(memory: &[u32], waits: &[u16], state: &GateState) -> Result<(), Refusal
     check_memory(memory.len())?;
     check_waits(waits.len())?;
     let is_access = matches!(state.row, 1 | 4 | 6 | 9);
-    if state.row > 11
+    if state.row > HALTED_ROW
         || !position_fits(waits.len(), state.position)
         || state.begun && !is_access
         || state.begun != (state.left > 0)
@@ -149,6 +153,7 @@ fn clock(memory: &mut [u32], waits: &[u16], state: &mut GateState) -> Clock {
             state.row = 0;
             return Clock::Finished;
         }
+        HALTED_ROW => return Clock::Stuck,
         _ => return access(memory, waits, state),
     }
     Clock::Moved
@@ -198,7 +203,7 @@ fn compute(state: &mut GateState, instruction: Instruction) -> u8 {
 /// Rows 1, 4, 6 and 9.
 fn access(memory: &mut [u32], waits: &[u16], state: &mut GateState) -> Clock {
     let Some(cell) = memory.get_mut(state.address as usize) else {
-        return Clock::Stalled;
+        return Clock::Stuck;
     };
     if state.begun {
         state.left -= 1;
@@ -213,7 +218,11 @@ fn access(memory: &mut [u32], waits: &[u16], state: &mut GateState) -> Clock {
     state.row = match state.row {
         1 => {
             state.instruction = *cell;
-            2
+            if is_instruction(*cell) {
+                2
+            } else {
+                HALTED_ROW
+            }
         }
         4 => {
             state.a = *cell;

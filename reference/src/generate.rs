@@ -1,6 +1,8 @@
 //! Seeded generators of cases for comparing emulators.
 
+pub mod halting;
 pub mod image;
+pub mod looping;
 pub mod pair;
 pub mod program;
 pub mod state;

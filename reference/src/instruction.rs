@@ -2,6 +2,14 @@
 
 use crate::machine::Flags;
 
+/// Bit 14 and bits 20-31: no instruction has one of these set (CR 5).
+pub const HALTING_BITS: u32 = 1 << 14 | 0xFFF << 20;
+
+/// Whether a fetched word is an instruction; the card halts on any other (CR 5).
+pub fn is_instruction(word: u32) -> bool {
+    word & HALTING_BITS == 0
+}
+
 /// Where an operand is, with the number of its register.
 #[derive(Clone, Copy, Debug, PartialEq, Eq)]
 pub enum Operand {
@@ -68,7 +76,7 @@ impl Operand {
     }
 }
 
-/// A decoded instruction word; bit 14 and bits 20-31 have no effect and are gone.
+/// The fields of a word, an instruction or not; its halting bits are gone.
 #[derive(Clone, Copy, Debug, PartialEq, Eq)]
 pub struct Instruction {
     pub a: Operand,
@@ -97,7 +105,7 @@ impl Instruction {
         }
     }
 
-    /// A word that decodes to this instruction, its unused bits 0.
+    /// The instruction word with these fields.
     pub fn encode(self) -> u32 {
         self.a.encode()
             | self.b.encode() << 5

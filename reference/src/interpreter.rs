@@ -1,7 +1,7 @@
 //! The interpreter: whole instructions, with the clocks they would take.
 
 use crate::alu::alu;
-use crate::instruction::{Instruction, Operand};
+use crate::instruction::{is_instruction, Instruction, Operand};
 use crate::machine::Machine;
 use crate::refusal::{check_memory, check_waits, Refusal};
 
@@ -9,9 +9,17 @@ use crate::refusal::{check_memory, check_waits, Refusal};
 #[derive(Clone, Copy, Debug, PartialEq, Eq)]
 pub enum Answer {
     Finished,
-    /// The next instruction needs a word that memory does not have.
-    Outside,
+    Stopped(Stop),
     Refused(Refusal),
+}
+
+/// Why the next instruction does not run.
+#[derive(Clone, Copy, Debug, PartialEq, Eq)]
+pub enum Stop {
+    /// It needs a word that memory does not have.
+    Outside,
+    /// The word at r0 is no instruction (CR 5).
+    NoInstruction,
 }
 
 #[derive(Clone, Copy, Debug, PartialEq, Eq)]
@@ -35,7 +43,7 @@ pub struct Step {
     pub stored: Option<(u32, u32)>,
 }
 
-/// Runs `count` instructions, or fewer if one would need a missing word.
+/// Runs `count` instructions, or fewer if there is a reason to stop before one.
 pub fn run(memory: &mut [u32], waits: &[u16], start: Machine, count: u32) -> RunResult {
     let mut result = RunResult {
         answer: Answer::Finished,
@@ -50,9 +58,12 @@ pub fn run(memory: &mut [u32], waits: &[u16], start: Machine, count: u32) -> Run
     // The list begins again at its end; an empty one has no waits (CR 3).
     let mut waits = waits.iter().cycle();
     while result.ran < count {
-        let Some(step) = step(memory, &mut result.machine) else {
-            result.answer = Answer::Outside;
-            break;
+        let step = match step(memory, &mut result.machine) {
+            Ok(step) => step,
+            Err(stop) => {
+                result.answer = Answer::Stopped(stop);
+                break;
+            }
         };
         let waited: u64 = waits
             .by_ref()
@@ -66,21 +77,21 @@ pub fn run(memory: &mut [u32], waits: &[u16], start: Machine, count: u32) -> Run
     result
 }
 
-/// Carries out the instruction at r0. `None`, with nothing changed, if it needs
-/// a missing word; B's word is needed even where nothing will be stored.
-pub fn step(memory: &mut [u32], machine: &mut Machine) -> Option<Step> {
+/// Carries out the instruction at r0, or changes nothing and says why not; B's word
+/// is needed even where nothing will be stored.
+pub fn step(memory: &mut [u32], machine: &mut Machine) -> Result<Step, Stop> {
     let before = machine.registers;
     let step = try_step(memory, machine);
-    if step.is_none() {
+    if step.is_err() {
         machine.registers = before;
     }
     step
 }
 
 /// As [`step`], but r0 and registers stepped down stay so if a word is missing.
-fn try_step(memory: &mut [u32], machine: &mut Machine) -> Option<Step> {
+fn try_step(memory: &mut [u32], machine: &mut Machine) -> Result<Step, Stop> {
     let Machine { registers, flags } = machine;
-    let instruction = Instruction::decode(*memory.get(registers[0] as usize)?);
+    let instruction = fetch(memory, registers[0])?;
     registers[0] = registers[0].wrapping_add(1);
     let (a, _) = take(instruction.a, memory, registers)?;
     let (b, address) = take(instruction.b, memory, registers)?;
@@ -102,20 +113,34 @@ fn try_step(memory: &mut [u32], machine: &mut Machine) -> Option<Step> {
 
     let operands_in_memory =
         usize::from(instruction.a.in_memory()) + usize::from(instruction.b.in_memory());
-    Some(Step {
+    Ok(Step {
         clocks: 8 + operands_in_memory as u64 + u64::from(stores),
         accesses: 1 + operands_in_memory + usize::from(stored.is_some()),
         stored,
     })
 }
 
+/// The instruction at an address: whether the word is there, then whether it is one.
+/// Its operands, which may be missing too, are taken only after that (CR 5).
+fn fetch(memory: &[u32], address: u32) -> Result<Instruction, Stop> {
+    let word = read(memory, address)?;
+    if !is_instruction(word) {
+        return Err(Stop::NoInstruction);
+    }
+    Ok(Instruction::decode(word))
+}
+
+fn read(memory: &[u32], address: u32) -> Result<u32, Stop> {
+    memory.get(address as usize).copied().ok_or(Stop::Outside)
+}
+
 /// An operand's value and, if it is in memory, its address (otherwise 0).
-fn take(operand: Operand, memory: &[u32], registers: &mut [u32; 8]) -> Option<(u32, u32)> {
+fn take(operand: Operand, memory: &[u32], registers: &mut [u32; 8]) -> Result<(u32, u32), Stop> {
     operand.step_down(registers);
     let content = registers[operand.register()];
     if operand.in_memory() {
-        Some((*memory.get(content as usize)?, content))
+        Ok((read(memory, content)?, content))
     } else {
-        Some((content, 0))
+        Ok((content, 0))
     }
 }

@@ -1,7 +1,7 @@
 //! The ledger: what an image's first instructions do, as text.
 
 use crate::image;
-use crate::interpreter::step;
+use crate::interpreter::{step, Stop};
 use crate::machine::Machine;
 
 /// The most bytes the program reads: one more than the largest image needs.
@@ -28,12 +28,20 @@ fn list(memory: &mut [u32], mut machine: Machine) -> String {
         let pc = machine.registers[0];
         // Before the step, as the instruction may overwrite itself.
         let word = memory.get(pc as usize).copied().unwrap_or_default();
-        let Some(step) = step(memory, &mut machine) else {
-            return text + &format!("outside {} {total}\n", number - 1);
+        let step = match step(memory, &mut machine) {
+            Ok(step) => step,
+            Err(stop) => return text + &format!("{} {} {total}\n", ending(stop), number - 1),
         };
         total += step.clocks;
         let flags = machine.flags.digits();
         text += &format!("{number} {pc:08X} {word:08X} {} {flags}\n", step.clocks);
     }
     text + &format!("finished {MOST_LINES} {total}\n")
+}
+
+fn ending(stop: Stop) -> &'static str {
+    match stop {
+        Stop::Outside => "outside",
+        Stop::NoInstruction => "halted",
+    }
 }

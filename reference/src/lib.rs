@@ -24,7 +24,7 @@ pub mod vectors;
 
 pub use file_run::{file_run, FileAnswer, FileResult};
 pub use gates::{gate_clock, gate_run, GateResult, GateState};
-pub use instruction::{Instruction, Operand};
-pub use interpreter::{run, step, Answer, RunResult, Step};
+pub use instruction::{is_instruction, Instruction, Operand, HALTING_BITS};
+pub use interpreter::{run, step, Answer, RunResult, Step, Stop};
 pub use machine::{Flags, Machine};
 pub use refusal::Refusal;

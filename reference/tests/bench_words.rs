@@ -2,7 +2,7 @@
 
 mod common;
 
-use common::{check_agreement, machine};
+use common::{check_agreement, machine, OUTSIDE};
 use reference::generate::program::Program;
 use reference::{gate_run, run, Answer, GateState, Machine};
 
@@ -185,7 +185,7 @@ fn last_word_runs_and_the_next_is_outside() {
     assert_eq!((at_3.answer, at_3.ran), (Answer::Finished, 1));
     let at_4 = machine(&[(0, 4)], "0000");
     let result = run(&mut memory, &[], at_4, 1);
-    assert_eq!((result.answer, result.ran), (Answer::Outside, 0));
+    assert_eq!((result.answer, result.ran), (OUTSIDE, 0));
     assert_eq!((result.machine, result.clocks), (at_4, 0));
 }
 
@@ -196,7 +196,7 @@ fn outside_leaves_the_machine_before_the_instruction() {
     let start = machine(&[(1, 4), (2, 5)], "1010");
     let mut after = memory;
     let result = run(&mut after, &[9, 9, 9], start, 7);
-    assert_eq!((result.answer, result.ran), (Answer::Outside, 0));
+    assert_eq!((result.answer, result.ran), (OUTSIDE, 0));
     assert_eq!((result.machine, result.clocks), (start, 0));
     assert_eq!(after, memory);
 }
@@ -206,7 +206,7 @@ fn b_must_be_present_even_where_nothing_is_stored() {
     // Move if C, with C 0, to the word r2 points at.
     let start = machine(&[(2, 4)], "0000");
     let result = run(&mut [0x0001_8141, 0, 0, 0], &[], start, 1);
-    assert_eq!((result.answer, result.ran), (Answer::Outside, 0));
+    assert_eq!((result.answer, result.ran), (OUTSIDE, 0));
 }
 
 #[test]

@@ -9,6 +9,9 @@ use reference::{file_run, gate_clock, run, Answer, FileAnswer, GateState};
 
 const SENTINEL: u32 = 0x5A5A_5A5A;
 
+/// Without waits, an instruction takes no more.
+const MOST_CLOCKS: u32 = 11;
+
 /// Address and former word of every store in the first `count` instructions,
 /// as seen at row 9 of the gate machine. They must all be present.
 fn stores(program: &Program, count: u32) -> Vec<u32> {
@@ -16,12 +19,16 @@ fn stores(program: &Program, count: u32) -> Vec<u32> {
     let mut state = GateState::start(program.start);
     let mut journal = Vec::new();
     let mut finished = 0;
-    while finished < u64::from(count) {
+    for _ in 0..MOST_CLOCKS * count {
+        if finished == u64::from(count) {
+            break;
+        }
         if state.row == 9 {
             journal.extend([state.address, memory[state.address as usize]]);
         }
         finished += gate_clock(&mut memory, &[], &mut state).unwrap();
     }
+    assert_eq!(finished, u64::from(count));
     journal
 }
 
@@ -45,7 +52,7 @@ fn check(program: &Program, spare: usize) -> bool {
         assert_eq!(memory, run_memory);
         return false;
     }
-    assert_eq!(due.answer, Answer::Outside);
+    assert!(matches!(due.answer, Answer::Stopped(_)), "{program:X?}");
     assert_eq!(result.answer, FileAnswer::Undone);
     assert_eq!(result.machine, program.start);
     assert_eq!(memory, program.memory);

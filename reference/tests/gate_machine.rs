@@ -82,6 +82,7 @@ fn allow_named(before: &mut GateState, after: &GateState) {
         7 => (before.result, before.flags) = (after.result, after.flags),
         8 | 11 => before.registers[b] = after.registers[b],
         10 => before.registers[a] = after.registers[a],
+        12 => return,
         _ => {}
     }
     if matches!(before.row, 1 | 4 | 6 | 9) {
@@ -227,7 +228,7 @@ fn a_run_of_no_clocks_changes_nothing() {
 #[test]
 fn a_refused_clock_leaves_the_lent_state() {
     let state = GateState {
-        row: 12,
+        row: 13,
         ..GateState::default()
     };
     let mut lent = state;

@@ -1,9 +1,14 @@
 //! That the generated programs reach what they are meant to reach.
 
-use reference::generate::program::{any_program, looping_program, program, Kind, Program};
+mod common;
+
+use common::{HALTING, NO_INSTRUCTION};
+use reference::generate::looping::looping_program;
+use reference::generate::program::{any_program, program, Kind, Program};
+use reference::generate::state::{gate_state, refused_gate_state};
 use reference::rng::Rng;
-use reference::{run, step, Answer, Instruction, Operand};
-use std::collections::HashSet;
+use reference::{is_instruction, run, step, Answer, Instruction, Operand, Stop};
+use std::collections::{HashMap, HashSet};
 
 /// What the instructions that really ran had in them.
 #[derive(Default)]
@@ -19,6 +24,10 @@ struct Seen {
     one_register: HashSet<(u32, u32)>,
     /// Words run after the program itself had stored them.
     self_modified: usize,
+    /// Of those, the ones that had been no instruction at the start.
+    repaired: usize,
+    /// Words that halted the card after the program itself had stored them.
+    stored_halting: usize,
 }
 
 fn mode(operand: Operand) -> u32 {
@@ -56,11 +65,15 @@ impl Seen {
         for _ in 0..program.count {
             let (pc, flags) = (machine.registers[0], machine.flags);
             let word = memory.get(pc as usize).copied();
-            let Some(step) = step(&mut memory, &mut machine) else {
-                return;
+            let modified = usize::from(stored.contains(&pc));
+            let step = match step(&mut memory, &mut machine) {
+                Ok(step) => step,
+                Err(Stop::NoInstruction) => return self.stored_halting += modified,
+                Err(Stop::Outside) => return,
             };
             self.record(word.unwrap(), flags);
-            self.self_modified += usize::from(stored.contains(&pc));
+            self.self_modified += modified;
+            self.repaired += usize::from(!is_instruction(program.memory[pc as usize]));
             stored.extend(step.stored.map(|(address, _)| address));
         }
     }
@@ -79,10 +92,70 @@ fn all_forms_of_instructions_run() {
     assert_eq!(seen.program_counter.len(), 8);
     assert_eq!(seen.one_register.len(), 16);
     assert!(seen.self_modified > 1_000, "{}", seen.self_modified);
+    assert!(seen.repaired > 30, "{}", seen.repaired);
+    assert!(seen.stored_halting > 50, "{}", seen.stored_halting);
+}
+
+/// The word at which a run ended, and its result's answer and count.
+fn ending(program: &Program) -> (Option<u32>, Answer, u32) {
+    let mut memory = program.memory.clone();
+    let result = run(&mut memory, &program.waits, program.start, program.count);
+    let r0 = result.machine.registers[0] as usize;
+    (memory.get(r0).copied(), result.answer, result.ran)
 }
 
 #[test]
-fn most_programs_run_on() {
+fn every_kind_of_ending_turns_up() {
+    let mut rng = Rng::new(35);
+    let mut times = HashMap::new();
+    for _ in 0..10_000 {
+        let (_, answer, ran) = ending(&any_program(&mut rng));
+        *times.entry((format!("{answer:?}"), ran > 0)).or_insert(0) += 1;
+    }
+    assert_eq!(times.len(), 6, "{times:?}");
+    assert!(times.values().all(|&times| times > 200), "{times:?}");
+}
+
+/// Each alone, and all of them in words with several.
+#[test]
+fn every_halting_bit_turns_up() {
+    let mut rng = Rng::new(36);
+    let mut alone = HashSet::new();
+    let mut together = 0;
+    for _ in 0..10_000 {
+        if let (Some(word), NO_INSTRUCTION, _) = ending(&any_program(&mut rng)) {
+            let bits = HALTING.map(|bit| word & bit);
+            match bits.iter().filter(|&&bit| bit > 0).count() {
+                1 => drop(alone.insert(bits)),
+                _ => together |= word,
+            }
+        }
+    }
+    assert_eq!(alone.len(), HALTING.len());
+    assert!(HALTING.iter().all(|bit| together & bit > 0));
+}
+
+/// Of the words that are meant to be instructions, about one in thirty is none.
+#[test]
+fn few_words_halt() {
+    let mut rng = Rng::new(37);
+    for kind in [
+        Kind::SelfModifying,
+        Kind::OneRegister,
+        Kind::Uniform,
+        Kind::Wild,
+    ] {
+        let programs: Vec<Program> = (0..2_000).map(|_| program(&mut rng, kind)).collect();
+        let words: Vec<u32> = programs.into_iter().flat_map(|p| p.memory).collect();
+        let halting = words.iter().filter(|&&word| !is_instruction(word)).count();
+        let per_halting = words.len() / halting;
+        assert!((25..=35).contains(&per_halting), "{kind:?}: {per_halting}");
+    }
+}
+
+/// About half of them to their end.
+#[test]
+fn programs_run_on() {
     let mut rng = Rng::new(15);
     let (mut finished, mut ran) = (0, 0);
     for _ in 0..10_000 {
@@ -92,8 +165,23 @@ fn most_programs_run_on() {
         finished += u32::from(result.answer == Answer::Finished);
         ran += result.ran;
     }
-    assert!((5_000..9_000).contains(&finished), "{finished}");
-    assert!(ran > 60_000, "{ran}");
+    assert!((4_000..6_000).contains(&finished), "{finished}");
+    assert!(ran > 50_000, "{ran}");
+}
+
+#[test]
+fn gate_states_stand_in_every_row() {
+    let mut rng = Rng::new(40);
+    let rows: HashSet<u8> = (0..1_000).map(|_| gate_state(&mut rng, 4, 4).row).collect();
+    assert_eq!(rows, (0..=12).collect());
+    let mut refused = HashSet::new();
+    for _ in 0..1_000 {
+        let state = refused_gate_state(&mut rng, 4, 4);
+        refused.insert((state.row, state.begun));
+    }
+    for state in [(12, false), (12, true), (13, false)] {
+        assert!(refused.contains(&state), "{state:?}");
+    }
 }
 
 #[test]
@@ -121,18 +209,19 @@ fn one_seed_gives_the_same_programs_again() {
     assert_ne!(programs(17), programs(18));
 }
 
+/// Some halt, after nearly as many instructions as the others.
 #[test]
 fn looping_programs_never_leave_memory() {
     let mut rng = Rng::new(15);
+    let mut halted = 0;
     for _ in 0..200 {
-        let Program {
-            mut memory,
-            waits,
-            start,
-            count,
-        } = looping_program(&mut rng);
-        let result = run(&mut memory, &waits, start, count);
-        assert_eq!((result.answer, result.ran), (Answer::Finished, count));
-        assert!(count >= 2_000);
+        let program = looping_program(&mut rng);
+        let (_, answer, ran) = ending(&program);
+        match answer {
+            NO_INSTRUCTION => halted += 1,
+            answer => assert_eq!((answer, ran), (Answer::Finished, program.count)),
+        }
+        assert!(ran > 1_900, "{ran}");
     }
+    assert!((30..70).contains(&halted), "{halted}");
 }

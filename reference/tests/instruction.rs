@@ -2,9 +2,10 @@
 
 mod common;
 
-use common::{flags, machine};
+use common::{flags, machine, HALTING};
 use reference::rng::Rng;
-use reference::{gate_run, run, Flags, GateState, Instruction, Operand, RunResult};
+use reference::{gate_run, is_instruction, run};
+use reference::{Flags, GateState, Instruction, Operand, RunResult};
 
 #[test]
 fn fields_are_at_their_bits() {
@@ -30,9 +31,26 @@ fn fields_are_at_their_bits() {
 }
 
 #[test]
-fn unused_bits_have_no_effect() {
-    for bit in [14].into_iter().chain(20..32) {
-        assert_eq!(Instruction::decode(1 << bit), Instruction::decode(0));
+fn halting_bits_are_in_no_field() {
+    for bit in HALTING {
+        assert_eq!(Instruction::decode(bit), Instruction::decode(0));
+    }
+}
+
+/// The words that are instructions are those that decoding and encoding keep.
+#[test]
+fn a_word_with_a_halting_bit_is_no_instruction() {
+    let fields = !HALTING.iter().fold(0, |bits, bit| bits | bit);
+    assert_eq!(fields.count_ones(), 19);
+    assert!(is_instruction(0) && is_instruction(fields));
+    for bit in HALTING {
+        assert!(!is_instruction(bit) && !is_instruction(fields | bit));
+    }
+    let mut rng = Rng::new(34);
+    for _ in 0..10_000 {
+        let word = rng.word() & (rng.word() | fields);
+        let kept = Instruction::decode(word).encode() == word;
+        assert_eq!(is_instruction(word), kept, "{word:08X}");
     }
 }
 

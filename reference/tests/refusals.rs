@@ -89,7 +89,7 @@ fn interpreter() {
 fn gate_machine() {
     let long_list = vec![0; 65_537];
     let bad = GateState {
-        row: 12,
+        row: 13,
         ..GateState::default()
     };
     assert_eq!(gate_refusal(&mut [], &long_list, bad), Some(1));
@@ -115,7 +115,7 @@ fn gate_states() {
     };
     for row in 0..=255 {
         let access = [1, 4, 6, 9].contains(&row);
-        assert_eq!(is_refused(row, false, 0), row > 11);
+        assert_eq!(is_refused(row, false, 0), row > 12);
         assert_eq!(is_refused(row, true, 1), !access);
         assert_eq!(is_refused(row, true, u16::MAX), !access);
         assert!(is_refused(row, true, 0));

@@ -1,7 +1,8 @@
-//! Stacks the traces of an image under a wait list, then rolls a file back.
+//! Stacks the traces of an image under a wait list, rolls a file back, and runs into a
+//! word that is no instruction.
 //! Usage: `stacking FOLDER`, the folder of the example images.
 
-use fm8502::{file_run, gate_run, read_image, run, Flags, GateState, Machine, Refused};
+use fm8502::{file_run, gate_run, read_image, run, Flags, GateState, Machine, Refused, Run};
 use std::path::{Path, PathBuf};
 use std::{env, fs, io};
 
@@ -15,7 +16,9 @@ fn main() -> io::Result<()> {
     let (mut memory, machine) = load(&folder, "stacking.image")?;
     stack(&mut memory, &waits, machine).map_err(io::Error::other)?;
     let (mut memory, machine) = load(&folder, "outside.image")?;
-    roll_back(&mut memory, machine).map_err(io::Error::other)
+    roll_back(&mut memory, machine).map_err(io::Error::other)?;
+    let (mut memory, machine) = load(&folder, "halted.image")?;
+    halt(&mut memory, &waits, machine).map_err(io::Error::other)
 }
 
 fn load_waits(path: &Path) -> io::Result<Vec<u16>> {
@@ -39,18 +42,34 @@ fn stack(memory: &mut [u32], waits: &[u16], start: Machine) -> Result<(), Refuse
     let mut copy = memory.to_vec();
     let mut machine = start;
     let ran = run(memory, waits, &mut machine, INSTRUCTIONS)?;
-    let ending = if ran.finished { "finished" } else { "outside" };
-    println!(
-        "run: {ending}, {} instructions, {} clocks",
-        ran.ran, ran.clocks
-    );
+    print_run(&ran);
     println!("flags {}", digits(machine.flags));
     println!("registers{}", words(&machine.registers));
     println!("traces {}", memory[TRACE_COUNT]);
     println!("accumulators{}", words(&memory[ACCUMULATORS]));
+    run_gates(&mut copy, waits, start, ran.clocks)
+}
 
+fn print_run(ran: &Run) {
+    let ending = match (ran.finished, ran.halted) {
+        (true, _) => "finished",
+        (false, true) => "no instruction",
+        (false, false) => "outside",
+    };
+    println!(
+        "run: {ending}, {} instructions, {} clocks",
+        ran.ran, ran.clocks
+    );
+}
+
+fn run_gates(
+    memory: &mut [u32],
+    waits: &[u16],
+    start: Machine,
+    clocks: u64,
+) -> Result<(), Refused> {
     let mut state = GateState::start(start);
-    let finished = gate_run(&mut copy, waits, &mut state, ran.clocks)?;
+    let finished = gate_run(memory, waits, &mut state, clocks)?;
     println!("gate machine: {finished} instructions, row {}", state.row);
     Ok(())
 }
@@ -77,6 +96,15 @@ fn roll_back(memory: &mut [u32], start: Machine) -> Result<(), Refused> {
         println!("short journal: refused {number}");
     }
     Ok(())
+}
+
+fn halt(memory: &mut [u32], waits: &[u16], start: Machine) -> Result<(), Refused> {
+    let mut copy = memory.to_vec();
+    let mut machine = start;
+    print_run(&run(memory, waits, &mut machine, INSTRUCTIONS)?);
+    let pc = machine.registers[0];
+    println!("next{}", words(&[pc, memory[pc as usize]]));
+    run_gates(&mut copy, waits, start, u64::MAX)
 }
 
 fn words(words: &[u32]) -> String {

@@ -14,8 +14,11 @@ pub use words::{Flags, GateState, Machine};
 /// How an interpreter run ended.
 #[derive(Clone, Copy, Debug, PartialEq, Eq)]
 pub struct Run {
-    /// False: the next instruction needs a word that memory does not have.
+    /// False: it stopped before an instruction that does not run.
     pub finished: bool,
+    /// True: it stopped because the next word is no instruction. False where it
+    /// finished, or the next instruction needs a word that memory does not have.
+    pub halted: bool,
     pub ran: u32,
     /// Clock total of the instructions that ran, their waits included.
     pub clocks: u64,
@@ -24,18 +27,17 @@ pub struct Run {
 /// How a file run ended.
 #[derive(Clone, Copy, Debug, PartialEq, Eq)]
 pub struct FileRun {
-    /// False: it came outside, and memory and machine are those of its start.
+    /// False: it stopped as a run does, and memory and machine are those of its start.
     pub finished: bool,
     pub ran: u32,
     /// Pairs of address and former word in the journal.
     pub pairs: u32,
 }
 
-/// Whether a call that was carried out ended without a missing word.
-fn carried_out(code: u32) -> Result<bool, Refused> {
+/// The code of a call that was carried out.
+fn carried_out(code: u32) -> Result<u32, Refused> {
     match code {
-        library::DONE => Ok(true),
-        library::STOPPED => Ok(false),
+        library::DONE | library::STOPPED | library::HALTED => Ok(code),
         // The wrappers lend slices of the right length, so this is 1 to 15.
         number => Err(Refused(number)),
     }
@@ -52,17 +54,19 @@ pub fn run(
 ) -> Result<Run, Refused> {
     let mut words = machine.to_words();
     let mut result = [0u64; 2];
-    let finished = carried_out(library::run(memory, waits, &mut words, count, &mut result))?;
+    let code = carried_out(library::run(memory, waits, &mut words, count, &mut result))?;
     *machine = Machine::from_words(&words);
     Ok(Run {
-        finished,
+        finished: code == library::DONE,
+        halted: code == library::HALTED,
         ran: result[0] as u32,
         clocks: result[1],
     })
 }
 
-/// Runs up to `count` instructions without waits; a run that comes outside is
-/// taken back whole. The journal has two places for each instruction.
+/// Runs up to `count` instructions without waits; a run that comes outside or to a
+/// word that is no instruction is taken back whole. The journal has two places for
+/// each instruction.
 pub fn file_run(
     memory: &mut [u32],
     journal: &mut [u32],
@@ -72,10 +76,10 @@ pub fn file_run(
     let mut words = machine.to_words();
     let mut result = [0u64; 2];
     let code = library::file_run(memory, journal, &mut words, count, &mut result);
-    let finished = carried_out(code)?;
+    let code = carried_out(code)?;
     *machine = Machine::from_words(&words);
     Ok(FileRun {
-        finished,
+        finished: code == library::DONE,
         ran: result[0] as u32,
         pairs: result[1] as u32,
     })

@@ -10,8 +10,10 @@ pub use crate::words::{MACHINE_SIZE, STATE_SIZE};
 
 /// Carried out.
 pub const DONE: u32 = 0;
-/// Carried out, and stopped at a missing word.
+/// Carried out, and stopped at a missing word; of a file run, undone.
 pub const STOPPED: u32 = 100;
+/// Carried out, and stopped at a word that is no instruction; [`run`] alone.
+pub const HALTED: u32 = 101;
 /// A machine, state or result of another length.
 pub const MISFIT: u32 = 200;
 

@@ -52,7 +52,8 @@ impl Machine {
 #[derive(Clone, Copy, Debug, Default, PartialEq, Eq)]
 pub struct GateState {
     pub machine: Machine,
-    /// The row to be done next; row 0 is between instructions.
+    /// The row to be done next, 0 to 12; row 0 is between instructions, and in row 12
+    /// the machine has halted.
     pub row: u8,
     pub instruction: u32,
     pub address: u32,

@@ -4,7 +4,7 @@ use mathlib.Core.Path.{_≡_, refl, sym, ap, _∙_}
 use mathlib.Core.List.{List, []}
 use Rattle.model.specs.declared.Machine.{Machine}
 use Rattle.model.specs.declared.Ending.{Ending}
-use Rattle.model.specs.declared.Ending.the-variants.{Finished, Outside}
+use Rattle.model.specs.declared.Ending.the-variants.{Finished, Outside, NoInstruction}
 use Rattle.model.specs.declared.Verdict.the-variants.{Accepted}
 use Rattle.model.specs.Interpreter.{Run, begin, interpret}
 use Rattle.model.specs.Waiting.{Work, workOf}
@@ -29,6 +29,7 @@ module _ (memory : List ℕ) (start : Machine) (i j : Run) (same : workOf j ≡ 
             ran = ap (λ (w : Work). w .ran) same;
             finished = λ _. (ap (λ (w : Work). w .machine) same, ap (λ (w : Work). w .memory) same);
             outside = λ q. (cc, cc);
+            halted = λ q. (cc, cc);
           })
       go Outside e d =
           rw (d, e)
@@ -37,6 +38,16 @@ module _ (memory : List ℕ) (start : Machine) (i j : Run) (same : workOf j ≡ 
             ran = ap (λ (w : Work). w .ran) same;
             finished = λ q. (cc, cc);
             outside = λ _. (refl, refl);
+            halted = λ _. (refl, refl);
+          })
+      go NoInstruction e d =
+          rw (d, e)
+          (record {
+            answer = refl;
+            ran = ap (λ (w : Work). w .ran) same;
+            finished = λ q. (cc, cc);
+            outside = λ _. (refl, refl);
+            halted = λ _. (refl, refl);
           })
 
 pub file-as-run : FileAsRun

@@ -1,5 +1,6 @@
 mod Series
 mod TwoRuns
+mod Halted
 mod Starred
 mod AnyWaits
 mod FileAsRun

@@ -15,7 +15,7 @@ use Rattle.model.proofs.Verdicts.{then-accepted, accepted}
 use Rattle.model.proofs.Waits.{first-fits}
 use Rattle.model.proofs.Valid.{resting, valid-verdict}
 use Rattle.interpreter.specs.Calls.{runResult}
-use Rattle.interpreter.proofs.Answers.{finished-as, outside-as, returned, left-in}
+use Rattle.interpreter.proofs.Answers.{finished-as, outside-as, halted-as, returned, left-in}
 use Rattle.agreement.specs.TwoRuns.{Start, InStep, TwoRuns, SameVerdict}
 use Rattle.agreement.proofs.Series.{series-as-one}
 
@@ -35,6 +35,7 @@ claim memory waits start n k h i p g q =
       marks = rw (q, p) (a .marks);
       all = λ e. rw p (a .all (rw p at (finished-as (i .ending) e)));
       outside = λ e. rw (q, p) (a .outside (rw p at (outside-as (i .ending) e)));
+      halted = λ e. rw (q, p) (a .halted (rw p at (halted-as (i .ending) e)));
     }
 
 pub two-runs : TwoRuns

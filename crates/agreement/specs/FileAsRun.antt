@@ -1,4 +1,4 @@
--- The file run beside the run, in the terms of what the two calls return by their contracts. Document 01, "File run and journal".
+-- The file run beside the run, in the terms of what the two calls return by their contracts. Document 01, "File run and journal"; CR 5.
 use Prim.Native.Nat.{ℕ}
 use mathlib.Core.Path.{_≡_}
 use mathlib.Core.List.{List}
@@ -9,19 +9,21 @@ use Rattle.interpreter.specs.declared.FileAnswer.{FileAnswer}
 use Rattle.interpreter.specs.declared.FileResult.{FileResult}
 use Rattle.interpreter.specs.Calls.{Runs, runNumber, FileRuns, fileNumber}
 
--- "finished" exactly where the run is, "undone" exactly where it is "outside"
+-- "finished" exactly where the run is, "undone" exactly where it is "outside" or "no instruction"
 abbrev pub fileAnswer : RunAnswer → FileAnswer
 fileAnswer RunAnswer.Finished = FileAnswer.Finished
 fileAnswer RunAnswer.Outside = FileAnswer.Undone
+fileAnswer RunAnswer.NoInstruction = FileAnswer.Undone
 fileAnswer (RunAnswer.Refused why) = FileAnswer.Refused why
 
 -- The run returned r and left `words`; the file run returned f and left `words′`. Both ran as many instructions; where the run finished,
--- machine and memory are the run's, and where it is "outside" they are those of the start.
+-- machine and memory are the run's, and where it is "outside" or "no instruction" they are those of the start.
 pub record AsRun (memory : List ℕ) (start : Machine) (words : List ℕ) (r : RunResult) (words′ : List ℕ) (f : FileResult) : Type 0 where
   pub answer : f .answer ≡ fileAnswer (r .answer)
   pub ran : f .ran ≡ r .ran
   pub finished : r .answer ≡ RunAnswer.Finished → (f .machine ≡ r .machine) × (words′ ≡ words)
   pub outside : r .answer ≡ RunAnswer.Outside → (f .machine ≡ start) × (words′ ≡ memory)
+  pub halted : r .answer ≡ RunAnswer.NoInstruction → (f .machine ≡ start) × (words′ ≡ memory)
 
 -- for every memory, start, n and journal, and under every wait list, where neither call is turned down
 abbrev pub FileAsRun : Type 0

@@ -1,5 +1,6 @@
 pub mod Series
 pub mod TwoRuns
+pub mod Halted
 pub mod Starred
 pub mod AnyWaits
 pub mod FileAsRun

@@ -1,5 +1,5 @@
 -- Demand 3 for the public calls `interpreter::run` and `gate_machine::run`, in the terms of what they return by their contracts. Document
--- 01, "Clocks".
+-- 01, "Clocks"; CR 5.
 use Prim.Native.Nat.{ℕ, _≤_}
 use mathlib.Core.Path.{_≡_}
 use mathlib.Core.Logic.{_↔_}
@@ -26,11 +26,13 @@ abbrev pub runMark : RunResult → List ℕ → Mark
 runMark r memory = markOf (r .ran) (r .machine) memory
 
 -- The run of n instructions returned r and left `words`; k clocks finished f instructions, gave the state s and left `words′`. The marks
--- are equal exactly when k is the clock total that was returned; a run that finished ran all n; after "outside" no more finish than ran.
+-- are equal exactly when k is the clock total that was returned, however the run ended; a run that finished ran all n; after "outside" and
+-- after "no instruction" no more finish than ran.
 pub record InStep (n k : ℕ) (r : RunResult) (words : List ℕ) (f : ℕ) (s : GateState) (words′ : List ℕ) : Type 0 where
   pub marks : gateMark (gate s words′ f) ≡ runMark r words ↔ (k ≡ r .clocks)
   pub all : r .answer ≡ RunAnswer.Finished → r .ran ≡ n
   pub outside : r .answer ≡ RunAnswer.Outside → f ≤ r .ran
+  pub halted : r .answer ≡ RunAnswer.NoInstruction → f ≤ r .ran
 
 -- For every memory, wait list and start that the interpreter's run does not turn down, for every n, and for every k, done in one gate run
 -- or in a series of them: k is the sum of the clocks of the runs and may pass 64 bits, and f is the sum of their counts.

@@ -1,2 +1,3 @@
-// Theorems about what interpreter::run and gate_machine::run return, by their contracts; no code.
-// Demand 3: specs/TwoRuns.antt, proved in proofs/TwoRuns.antt. The starred bench words: specs/Starred.antt, proved in proofs/Starred.antt.
+// Theorems about what the runs of the interpreter and the gate machine return, by their contracts; no code.
+// Demand 3: specs/TwoRuns.antt, proved in proofs/TwoRuns.antt. Row 12: specs/Halted.antt, proved in proofs/Halted.antt. The starred bench
+// words: specs/Starred.antt, proved in proofs/Starred.antt.

@@ -3,7 +3,7 @@ use mathlib.Core.Path.{_≡_, refl}
 use mathlib.Core.List.{[]}
 use Rattle.arithmetic.specs.Words.{signedOf, leaves}
 use Rattle.arithmetic.specs.Alu.{sumOf, differenceOf, halvedOf, answers, aluAt, aluOf}
-use Rattle.model.specs.Words.{field, bit}
+use Rattle.model.specs.Words.{field, bit, isInstruction}
 use Rattle.model.specs.Operands.{operandA, operandB}
 use Rattle.model.specs.Alu.{isMove, operation, alu, flagsAfter, stores}
 use Rattle.model.specs.Waits.{waitAt, nextPosition, positionFits, waitSum, positionAfter}
@@ -16,11 +16,11 @@ use Rattle.definition_cases.specs.Shape.{runHolds, gateHolds, verdictHol
 use Rattle.definition_cases.specs.Cases.{runCases, gateCases, verdictCases}
 
 pub runs : failures runHolds 0 runCases ≡ []
-unfolding field bit packedOf flagsOf operandA operandB signedOf leaves sumOf differenceOf halvedOf answers aluAt aluOf isMove operation alu flagsAfter stores waitAt nextPosition waitSum positionAfter execute stop advance interpret storedBy journalPairs journalWords
+unfolding field bit isInstruction packedOf flagsOf operandA operandB signedOf leaves sumOf differenceOf halvedOf answers aluAt aluOf isMove operation alu flagsAfter stores waitAt nextPosition waitSum positionAfter execute stop advance interpret storedBy journalPairs journalWords
 runs = refl
 
 pub gates : failures gateHolds 0 gateCases ≡ []
-unfolding field bit packedOf flagsOf latchWords operandA operandB signedOf leaves sumOf differenceOf halvedOf answers aluAt aluOf isMove operation alu flagsAfter stores waitAt nextPosition work isAccess remaining positionNow workOrWait clock gateRun
+unfolding field bit isInstruction packedOf flagsOf latchWords operandA operandB signedOf leaves sumOf differenceOf halvedOf answers aluAt aluOf isMove operation alu flagsAfter stores waitAt nextPosition work isAccess remaining positionNow workOrWait clock gateRun
 gates = refl
 
 pub verdicts : failures verdictHolds 0 verdictCases ≡ []

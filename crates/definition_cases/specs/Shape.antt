@@ -1,14 +1,14 @@
 -- Generated cases of both engines: inputs, what the reference emulator gave, and whether the model's definitions give the same. A test of
 -- the definitions of document 01, "Machine and instruction word", "Clocks", "File run and journal" and "Why a call is turned down", and of
--- document 02, CR 3.
+-- document 02, CR 3 and CR 5.
 use Prim.Native.Nat.{ℕ, suc}
-use mathlib.Core.Bool.{Bool, true, false, cond, _&&_, Bool·beq}
+use mathlib.Core.Bool.{Bool, true, false, cond, _&&_}
 use mathlib.Core.List.{List, [], _∷_}
 use lib.Dec.{eqb}
 use lib.ListN.{getD}
 use Rattle.model.specs.declared.GateState.{GateState}
 use Rattle.model.specs.declared.Ending.{Ending}
-use Rattle.model.specs.declared.Ending.the-variants.{Finished, Outside}
+use Rattle.model.specs.declared.Ending.the-variants.{Finished, Outside, NoInstruction}
 use Rattle.model.specs.Interpreter.{begin, interpret}
 use Rattle.model.specs.Journal.{journalPairs, journalWords}
 use Rattle.model.specs.GateMachine.{gateRun}
@@ -22,17 +22,18 @@ same [] (y ∷ ys) = false
 same (x ∷ xs) [] = false
 same (x ∷ xs) (y ∷ ys) = eqb x y && same xs ys
 
-abbrev pub isOutside : Ending → Bool
-isOutside Finished = false
-isOutside Outside = true
+-- ---- runs of the interpreter, with the journal of a file run; an ending is its number
 
--- ---- runs of the interpreter, with the journal of a file run
+abbrev pub endingNumber : Ending → ℕ
+endingNumber Finished = 0
+endingNumber Outside = 1
+endingNumber NoInstruction = 2
 
 pub data RunCase : Type 0 where
-  runCase : (memory regs : List ℕ) (flags : ℕ) (waits : List ℕ) (n : ℕ) (memory′ regs′ : List ℕ) (flags′ : ℕ) (journal : List ℕ) (ran clocks : ℕ) (outside : Bool) → RunCase
+  runCase : (memory regs : List ℕ) (flags : ℕ) (waits : List ℕ) (n : ℕ) (memory′ regs′ : List ℕ) (flags′ : ℕ) (journal : List ℕ) (ran clocks ending : ℕ) → RunCase
 
 abbrev pub runHolds : RunCase → Bool
-runHolds (runCase memory regs flags waits n memory′ regs′ flags′ journal ran clocks outside) =
+runHolds (runCase memory regs flags waits n memory′ regs′ flags′ journal ran clocks ending) =
     let start = begin (packedMachine regs flags) memory 0 in
     let r = interpret waits n start in
     same (r .memory) memory′
@@ -41,7 +42,7 @@ runHolds (runCase memory regs flags waits n memory′ regs′ flags′ journal r
     && same (journalWords (journalPairs waits n start)) journal
     && eqb (r .ran) ran
     && eqb (r .clocks) clocks
-    && Bool·beq (isOutside (r .ending)) outside
+    && eqb (endingNumber (r .ending)) ending
 
 -- ---- gate runs; a state is its registers, and in a list its flags, row, latches, position, access begun, clocks left
 

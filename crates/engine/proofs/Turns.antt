@@ -9,18 +9,18 @@ use native.Mathlib.Omega.{arith}
 use lib.ListN.{length}
 use lib.Seq.{sets}
 use Rattle.model.specs.declared.Machine.{Machine}
-use Rattle.model.specs.declared.Ending.the-variants.{Finished, Outside}
+use Rattle.model.specs.declared.Ending.the-variants.{Finished}
 use Rattle.model.specs.Waits.{waitAt, positionFits}
 use Rattle.model.specs.Interpreter as I
 use Rattle.model.specs.Journal.{Pair, storedBy, journalPairs, journalWords}
 use Rattle.model.specs.Packed.{packedOf, packedMachine}
 use Rattle.model.proofs.Packed.{unpacks}
-use Rattle.model.proofs.Runs.{runAt, outside-stays, outside-pairs, pairs-le, noted-length, noted-words}
+use Rattle.model.proofs.Runs.{runAt, stopped-stays, stopped-pairs, pairs-le, noted-length, noted-words}
 use Rattle.model.proofs.Waits.{first-fits, after-fits}
 use Rattle.model.proofs.Bounds.{clocks-le}
 use Rattle.step.specs.declared.Stepped.{Stepped}
 use Rattle.step.specs.Steps.{journaled, Steps}
-use Rattle.step.proofs.Answers.{is-inside, is-stepped, next-regs, next-flags, next-words, next-places, same-regs, same-words, same-places, stops, stores, stores-none}
+use Rattle.step.proofs.Answers.{runs-on, is-stepped, next-regs, next-flags, next-words, next-places, same-regs, same-words, same-places, stops, stores, stores-none}
 use Rattle.engine.specs.declared.clocks.Spent.{Spent}
 use Rattle.engine.specs.declared.Ended.{Ended}
 use Rattle.engine.specs.Clocks.{spentOf}
@@ -36,11 +36,11 @@ module _ {regs memory journal : List ℕ} {pairs flags : ℕ} {regs′ memory′
   abbrev at : I.Run
   at = runAt m memory p i c
 
-  advances : s .inside ≡ true → {w : Spent} → w ≡ spentOf waits (record { clocks = c; position = p }) (s .oa) (s .ob) (s .stored)
+  advances : I.goesOn (s .ending) ≡ true → {w : Spent} → w ≡ spentOf waits (record { clocks = c; position = p }) (s .oa) (s .ob) (s .stored)
       → I.advance waits at ≡ runAt (packedMachine regs′ (s .flags)) memory′ (w .position) (i + 1) (w .clocks)
   unfolding I.advance I.execute
   advances e f =
-      ap (λ (t : Bool). cond t (I.execute waits at) (I.stop Outside at)) (is-inside h e)
+      ap (λ (t : Bool). cond t (I.execute waits at) (I.stop (I.nextEnding memory m) at)) (runs-on h e)
       ∙ rw (next-regs h e, next-flags h e, next-words h e, f, is-stepped h e, add-assoc c (I.baseClocks memory m))
 
 -- ---- the loop
@@ -52,7 +52,7 @@ module _ (memory₀ waits journal₀ : List ℕ) (start : Machine) (count : ℕ)
   abbrev pairsAt : ℕ → List Pair
   pairsAt i = journalPairs waits i first
 
-  -- after i instructions, all inside
+  -- after i instructions, all of which ran
   pub record At (memory journal regs : List ℕ) (flags position clocks pairs i : ℕ) : Type 0 where
     pub state : I.interpret waits i first ≡ runAt (packedMachine regs flags) memory position i clocks
     pub counted : pairs ≡ length (pairsAt i)
@@ -87,7 +87,7 @@ module _ {memory₀ waits journal₀ : List ℕ} {start : Machine} {count : ℕ}
       unfolding journalPairs
       next-pairs = ap pairsTo (add-one i) ∙ ap (λ (r : I.Run). pairsTo i ++ storedBy r) (a .state)
 
-      pub turn : s .inside ≡ true → {w : Spent} → w ≡ spentOf waits (record { clocks = clocks; position = position }) (s .oa) (s .ob) (s .stored)
+      pub turn : I.goesOn (s .ending) ≡ true → {w : Spent} → w ≡ spentOf waits (record { clocks = clocks; position = position }) (s .oa) (s .ob) (s .stored)
           → count < 2 ^ 32 → length memory′ ≡ length memory → length journal′ ≡ length journal
           → At memory₀ waits journal₀ start count memory′ journal′ regs′ (s .flags) (w .position) (w .clocks) (s .pairs) (i + 1)
       turn e f few lm lj =
@@ -111,15 +111,15 @@ module _ {memory₀ waits journal₀ : List ℕ} {start : Machine} {count : ℕ}
             places = lj ∙ a .places;
           }
 
-      pub outside : s .inside ≡ false → {ended : Ended} → ended ≡ endedAt Outside (packedMachine regs′ flags) i clocks pairs
+      pub stopped : I.goesOn (s .ending) ≡ false → {ended : Ended} → ended ≡ endedAt (s .ending) (packedMachine regs′ flags) i clocks pairs
           → EngineEnds memory₀ waits journal₀ start count memory′ journal′ ended
       unfolding I.stop
-      outside e g =
-          let stopped : I.interpret waits (i + 1) run₀ ≡ I.stop Outside here = next ∙ stops h waits position i clocks e in
-          let out : I.interpret waits (i + 1) run₀ .ending ≡ Outside = ap (λ (r : I.Run). r .ending) stopped in
-          let ran : I.interpret waits count run₀ ≡ I.stop Outside here = outside-stays waits run₀ (omega arith) out ∙ stopped in
+      stopped e g =
+          let last : I.interpret waits (i + 1) run₀ ≡ I.stop (s .ending) here = next ∙ stops h waits position i clocks e in
+          let out : I.goesOn (I.interpret waits (i + 1) run₀ .ending) ≡ false = ap (λ (r : I.Run). I.goesOn (r .ending)) last ∙ e in
+          let ran : I.interpret waits count run₀ ≡ I.stop (s .ending) here = stopped-stays waits run₀ (omega arith) out ∙ last in
           let same : pairsTo count ≡ pairsTo i =
-          outside-pairs waits run₀ (omega arith) out ∙ next-pairs
+          stopped-pairs waits run₀ (omega arith) out ∙ next-pairs
           ∙ ap (λ (l : List Pair). pairsTo i ++ l) (stores-none h waits position i clocks e) ∙ append-nil (pairsTo i) in
           record {
             result = rw (g, ran, same, same-regs h e, a .counted);

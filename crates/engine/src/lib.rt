@@ -8,6 +8,7 @@ use model::Ending;
 use model::Machine;
 use packed_flags::packed;
 use packed_flags::unpacked;
+use step::goes_on;
 use step::step;
 ghost use mathlib.Core.Path.{_≡_};
 ghost use Rattle.model.specs.Packed.{packedMachine};
@@ -55,8 +56,9 @@ pub fn engine(
     let mut i: u32 = 0;
     while i < count {
         let s = step(&mut regs, memory, journal, pairs, flags);
-        if !s.inside {
-            return run_end(Ending::Outside, regs, flags, i, clocks, pairs);
+        let ending = s.ending;
+        if !goes_on(ending) {
+            return run_end(ending, regs, flags, i, clocks, pairs);
         }
         let oa = s.oa;
         let ob = s.ob;

@@ -12,15 +12,15 @@ use Rattle.model.specs.declared.GateState.{GateState}
 use Rattle.model.specs.Words.{present}
 use Rattle.model.specs.GateMachine.{Gate, gate, withAccess, work, isAccess, remaining, positionNow, clock, gateRun}
 use Rattle.model.specs.Agreement.{gateFrom}
-use Rattle.model.proofs.Clocks.{one-clock}
+use Rattle.model.proofs.Clocks.{halted-stands, one-clock}
 use Rattle.model.proofs.Progress.{finished-slow}
 use Rattle.model.proofs.Blocked.{absent, stands-on}
 use Rattle.step_table.specs.declared.Step.{Step}
-use Rattle.step_table.specs.Table.{stepOf, marksAccess, marksFinish}
+use Rattle.step_table.specs.Table.{stepOf, marksAccess, marksFinish, marksStay}
 use Rattle.step_table.proofs.Table.{access-mark}
 use Rattle.gate_rows.specs.declared.latches.Latches.{Latches}
 use Rattle.gate_rows.specs.Work.{stateOf, Works}
-use Rattle.gate_rows.proofs.Steps.{counted-is, worked}
+use Rattle.gate_rows.proofs.Steps.{counted-is, worked, stays-on}
 use Rattle.gate_machine.specs.declared.access.Grant.{Grant}
 use Rattle.gate_machine.specs.Clock.{grantOf, Ticks, Stands}
 
@@ -87,8 +87,11 @@ module _ (waits : List ℕ) (s : Latches) (regs memory : List ℕ) (step : Step)
   waits-on w = (λ f. rw w at (granted f), stuck-on)
 
   pub works-on : g .works ≡ true → {t : Latches} {regs′ memory′ : List ℕ} → Works (taking g s) step regs memory t regs′ memory′
-      → Ticks waits (stateOf regs s) memory (stateOf regs′ t) (marksFinish step) memory′ × Stands waits (stateOf regs′ t) memory′ false
-  works-on w h = (λ f. worked (taking g s) step regs memory own h f ∙ (rw w at (granted f)), λ e. absurd (true≢false (sym e)))
+      → Ticks waits (stateOf regs s) memory (stateOf regs′ t) (marksFinish step) memory′ × Stands waits (stateOf regs′ t) memory′ (marksStay step)
+  works-on w h = (
+    λ f. worked (taking g s) step regs memory own h f ∙ (rw w at (granted f)),
+    λ e f. halted-stands waits _ (stays-on (taking g s) step regs memory own e h),
+  )
 
 -- ---- one turn of the loop
 

@@ -8,6 +8,7 @@ use model::GateState;
 use model::Verdict;
 use step_table::ACCESS;
 use step_table::FINISHES;
+use step_table::STAYS;
 use step_table::Step;
 use step_table::steps;
 ghost use mathlib.Core.Path.{_≡_};
@@ -55,7 +56,7 @@ fn tick(s: Latches, step: Step, regs: &mut [u32; 8], memory: &mut [u32], waits: 
     Ticked {
         latches: u,
         finished: mark == FINISHES,
-        stuck: false,
+        stuck: mark == STAYS,
     }
 }
 

@@ -7,12 +7,13 @@ use lib.ListN.{getD, List·getD-eq-default}
 use Rattle.arithmetic.proofs.Operations.{NoneOf, past-all}
 use Rattle.model.specs.declared.Operand.{Operand}
 use Rattle.model.specs.declared.GateState.{GateState}
+use Rattle.model.specs.Words.{isInstruction}
 use Rattle.model.specs.Operands.{operandA, operandB, inMemory, stepDown, registerWord}
-use Rattle.model.specs.GateMachine.{Gate, gate, withRow, withRegs, withAddress, withA, withB, prepare, rows, work}
+use Rattle.model.specs.GateMachine.{Gate, gate, withRow, withRegs, withInstruction, withAddress, withA, withB, prepare, rows, work}
 use Rattle.step_table.specs.declared.Step.{Step}
-use Rattle.step_table.specs.Table.{memoryRow, directRow}
+use Rattle.step_table.specs.Table.{memoryRow, directRow, skippedRow}
 use Rattle.gate_rows.specs.declared.latches.Latches.{Latches}
-use Rattle.gate_rows.specs.Work.{stateOf, operandRow, nextRows, leads, Works}
+use Rattle.gate_rows.specs.Work.{stateOf, Becomes, readRow, operandRow, nextRows, leads, Works}
 
 -- the model's row n, on registers, latches and memory
 abbrev rowOf : ℕ → Latches → List ℕ → List ℕ → Gate
@@ -21,24 +22,24 @@ rowOf n s regs memory = getD rows n (λ g. g) (gate (stateOf regs s) memory 0)
 -- what a row's function leaves is the work of the machine in that row
 pub by : {s : Latches} {step : Step} {regs memory : List ℕ} (n : ℕ) → s .row ≡ n
     → {s′ : Latches} {regs′ memory′ : List ℕ}
-    → stateOf regs′ s′ ≡ withRow (leads step (stateOf regs s) n) (rowOf n s regs memory .state) → memory′ ≡ rowOf n s regs memory .memory
+    → stateOf regs′ s′ ≡ withRow (leads step (stateOf regs s) memory n) (rowOf n s regs memory .state) → memory′ ≡ rowOf n s regs memory .memory
     → Works s step regs memory s′ regs′ memory′
 unfolding work
 by {s} {step} {regs} {memory} n e p q =
     record {
-      state = p ∙ ap (λ (k : ℕ). withRow (leads step (stateOf regs s) k) (rowOf k s regs memory .state)) (sym e);
+      state = p ∙ ap (λ (k : ℕ). withRow (leads step (stateOf regs s) memory k) (rowOf k s regs memory .state)) (sym e);
       words = q ∙ ap (λ (k : ℕ). rowOf k s regs memory .memory) (sym e);
     }
 
 -- past the table there is no work
-pub past-table : {s : Latches} {step : Step} {regs memory : List ℕ} → NoneOf 0 12 (s .row) → Works s step regs memory s regs memory
+pub past-table : {s : Latches} {step : Step} {regs memory : List ℕ} → NoneOf 0 13 (s .row) → Works s step regs memory s regs memory
 unfolding work
 past-table {s} {step} {regs} {memory} h =
     let g = gate (stateOf regs s) memory 0 in
-    let high = past-all 0 12 (s .row) h zero-le in
+    let high = past-all 0 13 (s .row) h zero-le in
     let e : getD rows (s .row) (λ h. h) ≡ (λ (h : Gate). h) = List·getD-eq-default rows (λ h. h) {n = s .row} high in
-    let l : leads step (stateOf regs s) (s .row) ≡ s .row =
-    List·getD-eq-default (nextRows step (stateOf regs s)) (s .row) {n = s .row} high in
+    let l : leads step (stateOf regs s) memory (s .row) ≡ s .row =
+    List·getD-eq-default (nextRows step (stateOf regs s) memory) (s .row) {n = s .row} high in
     record {
       state = λ i. withRow (sym l i) (sym e i g .state);
       words = λ i. sym e i g .memory;
@@ -81,3 +82,9 @@ pub prepares-direct : (step : Step) (o : Operand) (s : GateState) {second : Bool
     → withRow (directRow step) (cond v withB withA word (withRegs regs s))
     ≡ prepare o (memoryRow step) (directRow step) (cond second withB withA) s
 prepares-direct step o s v e m p q = rw e (prepares-operand step o (cond v withB withA) s false m p q)
+
+-- the word that row 1 read leads on or to row 12
+pub reads-row : (step : Step) (s : Latches) (word : ℕ) {v : Bool} (w : Bool) → v ≡ isInstruction word → v ≡ w
+    → {t : Latches} → Becomes s (λ x. withRow (cond w (memoryRow step) (skippedRow step)) (withInstruction word x)) t
+    → Becomes s (λ x. withRow (readRow step word) (withInstruction word x)) t
+reads-row step s word w is e h regs = h regs ∙ rw (sym is ∙ e)

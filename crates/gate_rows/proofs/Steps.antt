@@ -11,7 +11,8 @@ use Rattle.model.specs.Operands.{operandA, operandB, inMemory}
 use Rattle.model.specs.GateMachine.{Gate, gate, withRow, rows, work}
 use Rattle.model.proofs.Cases.{Each, past, _▸_}
 use Rattle.step_table.specs.declared.Step.{Step}
-use Rattle.step_table.specs.Table.{stepTable, stepOf, marksFinish}
+use Rattle.step_table.specs.Table.{stepTable, stepOf, memoryRow, marksFinish, marksStay}
+use Rattle.step_table.proofs.Table.{stay-mark}
 use Rattle.gate_rows.specs.declared.latches.Latches.{Latches}
 use Rattle.gate_rows.specs.Work.{stateOf, leads, Works, counted}
 
@@ -24,7 +25,7 @@ counted-is false f = add-zero f
 abbrev by-step : ℕ → GateState → List ℕ → ℕ → Gate
 by-step n s memory f =
     let g = getD rows n (λ h. h) (gate s memory 0) in
-    gate (withRow (leads (stepOf n) s n) (g .state)) (g .memory) (counted (marksFinish (stepOf n)) f)
+    gate (withRow (leads (stepOf n) s memory n) (g .state)) (g .memory) (counted (marksFinish (stepOf n)) f)
 
 branch : (b : Bool) (x y : ℕ) (u v : GateState) → u .row ≡ x → v .row ≡ y → cond b x y ≡ cond b u v .row
 branch true x y u v p q = sym p
@@ -41,7 +42,7 @@ step-rows s memory f =
     ▸ ap (λ (t : GateState). gate t memory f) (same-row _ _ (branch (inMemory (operandA (s .instruction))) 4 5 _ _ refl refl))
     ▸ refl
     ▸ ap (λ (t : GateState). gate t memory f) (same-row _ _ (branch (inMemory (operandB (s .instruction))) 6 7 _ _ refl refl))
-    ▸ refl ▸ refl ▸ refl ▸ refl ▸ refl ▸ refl
+    ▸ refl ▸ refl ▸ refl ▸ refl ▸ refl ▸ refl ▸ refl
     ▸ past (λ n. refl)
 
 -- with its own step of the table, a row's function does the model's work
@@ -54,6 +55,15 @@ worked s step regs memory e w f =
     ∙ ap
     (λ (t : Step).
     let g = getD rows (s .row) (λ h. h) (gate (stateOf regs s) memory 0) in
-    gate (withRow (leads t (stateOf regs s) (s .row)) (g .state)) (g .memory) (counted (marksFinish t) f))
+    gate (withRow (leads t (stateOf regs s) memory (s .row)) (g .state)) (g .memory) (counted (marksFinish t) f))
     e
     ∙ step-rows (stateOf regs s) memory f .at (s .row)
+
+-- where the step says that the machine stays, it is in row 12 after the row's work
+pub stays-on : (s : Latches) (step : Step) (regs memory : List ℕ) → step ≡ stepOf (s .row) → marksStay step ≡ true
+    → {s′ : Latches} {regs′ memory′ : List ℕ} → Works s step regs memory s′ regs′ memory′ → s′ .row ≡ 12
+unfolding stepOf stepTable
+stays-on s step regs memory own stays w =
+    let in-12 : s .row ≡ 12 = stay-mark (s .row) (sym (ap marksStay own) ∙ stays) in
+    let last : step ≡ stepOf 12 = own ∙ ap stepOf in-12 in
+    ap (λ (t : GateState). t .row) (w .state) ∙ ap (leads step (stateOf regs s) memory) in-12 ∙ ap memoryRow last

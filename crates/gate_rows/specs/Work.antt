@@ -1,4 +1,4 @@
--- What a row's work leaves: the model's work, with the next row taken from a step of the table. Document 01, "Clocks".
+-- What a row's work leaves: the model's work, with the next row taken from a step of the table. Document 01, "Clocks"; CR 5.
 use Prim.Native.Nat.{ℕ, _+_}
 use mathlib.Core.Path.{_≡_}
 use mathlib.Core.Bool.{Bool, cond}
@@ -6,6 +6,7 @@ use mathlib.Core.List.{List, [], _∷_}
 use lib.ListN.{getD}
 use Rattle.model.specs.declared.Operand.{Operand}
 use Rattle.model.specs.declared.GateState.{GateState}
+use Rattle.model.specs.Words.{isInstruction, wordAt}
 use Rattle.model.specs.Operands.{operandA, operandB, inMemory}
 use Rattle.model.specs.Alu.{stores}
 use Rattle.model.specs.GateMachine.{stateWith, gate, withRow, work}
@@ -24,7 +25,10 @@ Becomes s f s′ = (regs : List ℕ) → stateOf regs s′ ≡ f (stateOf regs s
 
 -- ---- where a step leads
 
--- from the row of an operand o, and from row 7
+-- from row 1 with the word that was read, from the row of an operand o, and from row 7
+abbrev pub readRow : Step → ℕ → ℕ
+readRow step word = cond (isInstruction word) (memoryRow step) (skippedRow step)
+
 abbrev pub operandRow : Step → Operand → ℕ
 operandRow step o = cond (inMemory o) (memoryRow step) (directRow step)
 
@@ -32,10 +36,10 @@ abbrev pub storeRow : Step → GateState → ℕ
 storeRow step s = cond (stores (s .instruction) (s .flags)) (operandRow step (operandB (s .instruction))) (skippedRow step)
 
 -- from each row
-abbrev pub nextRows : Step → GateState → List ℕ
-nextRows step s =
+abbrev pub nextRows : Step → GateState → List ℕ → List ℕ
+nextRows step s memory =
     memoryRow step
-    ∷ memoryRow step
+    ∷ readRow step (wordAt memory (s .address))
     ∷ memoryRow step
     ∷ operandRow step (operandA (s .instruction))
     ∷ memoryRow step
@@ -46,17 +50,18 @@ nextRows step s =
     ∷ memoryRow step
     ∷ memoryRow step
     ∷ memoryRow step
+    ∷ memoryRow step
     ∷ []
 
 -- from row r; past the table the row stays
-abbrev pub leads : Step → GateState → ℕ → ℕ
-leads step s r = getD (nextRows step s) r (s .row)
+abbrev pub leads : Step → GateState → List ℕ → ℕ → ℕ
+leads step s memory r = getD (nextRows step s memory) r (s .row)
 
 -- ---- the contract of a row's work
 
 -- the state and the memory after the model's work, but that the step says where it leads
 pub record Works (s : Latches) (step : Step) (regs memory : List ℕ) (s′ : Latches) (regs′ memory′ : List ℕ) : Type 0 where
-  pub state : stateOf regs′ s′ ≡ withRow (leads step (stateOf regs s) (s .row)) (work (gate (stateOf regs s) memory 0) .state)
+  pub state : stateOf regs′ s′ ≡ withRow (leads step (stateOf regs s) memory (s .row)) (work (gate (stateOf regs s) memory 0) .state)
   pub words : memory′ ≡ work (gate (stateOf regs s) memory 0) .memory
 
 -- ---- the count

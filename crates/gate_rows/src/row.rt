@@ -2,6 +2,7 @@
 use super::compute::compute;
 use super::latches::Latches;
 use model::Operand;
+use operands::is_instruction;
 use operands::load;
 use operands::operand_a;
 use operands::operand_b;
@@ -16,7 +17,7 @@ ghost use mathlib.Core.Path.{_≡_};
 ghost use mathlib.Core.Bool.{cond};
 ghost use Rattle.model.specs.GateMachine.{withRow, withInstruction, withAddress, withA, withB, prepare};
 ghost use Rattle.step_table.specs.Table.{memoryRow, directRow};
-ghost use Rattle.gate_rows.specs.Work.{stateOf, Becomes, Works};
+ghost use Rattle.gate_rows.specs.Work.{stateOf, Becomes, readRow, Works};
 
 fn moved(mut s: Latches, next: u8) -> Latches
     ensures { λ r. ⌜ Becomes s (withRow next) r ⌝ }
@@ -31,6 +32,17 @@ fn latch_instruction(mut s: Latches, x: u32, next: u8) -> Latches
     s.instruction = x;
     s.row = next;
     s
+}
+
+// Latches the word that was read; where it is no instruction, the step's third row is next.
+fn read_instruction(s: Latches, word: u32, step: Step) -> Latches
+    ensures { λ r. ⌜ Becomes s (λ t. withRow (readRow step word) (withInstruction word t)) r ⌝ }
+{
+    let Step(next, _, halted, _) = step;
+    if is_instruction(word) {
+        return latch_instruction(s, word, next);
+    }
+    latch_instruction(s, word, halted)
 }
 
 fn latch_address(mut s: Latches, x: u32, next: u8) -> Latches
@@ -88,7 +100,7 @@ pub fn work(s: Latches, step: Step, regs: &mut [u32; 8], memory: &mut [u32]) -> 
     let Step(next, _, _, _) = step;
     match row {
         0 => latch_address(s, regs[0], next),
-        1 => latch_instruction(s, load(&*memory, s.address as usize), next),
+        1 => read_instruction(s, load(&*memory, s.address as usize), step),
         2 => {
             step_pc(regs);
             moved(s, next)
@@ -114,6 +126,7 @@ pub fn work(s: Latches, step: Step, regs: &mut [u32; 8], memory: &mut [u32]) -> 
             step_up(operand_b(word), regs);
             moved(s, next)
         }
+        12 => moved(s, next),
         _ => s,
     }
 }

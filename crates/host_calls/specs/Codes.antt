@@ -23,6 +23,10 @@ done = 0
 abbrev pub stopped : ℕ
 stopped = 100
 
+-- CR 5: carried out and ended "no instruction"
+abbrev pub halted : ℕ
+halted = 101
+
 -- what is lent has not the layout's lengths
 abbrev pub misfit : ℕ
 misfit = 200
@@ -30,6 +34,7 @@ misfit = 200
 abbrev pub runCode : RunAnswer → ℕ
 runCode RunAnswer.Finished = done
 runCode RunAnswer.Outside = stopped
+runCode RunAnswer.NoInstruction = halted
 runCode (RunAnswer.Refused why) = refusalNumber why
 
 abbrev pub fileCode : FileAnswer → ℕ
@@ -42,7 +47,7 @@ abbrev pub codeIf : Bool → ℕ → ℕ
 codeIf fits code = cond fits code misfit
 
 abbrev pub carriedOut : (code : ℕ) → Bool
-carriedOut code = eqb code done || eqb code stopped
+carriedOut code = eqb code done || eqb code stopped || eqb code halted
 
 -- carried out to its end
 abbrev pub finishes : (code : ℕ) → Bool

@@ -18,14 +18,18 @@ use Rattle.image.specs.declared.ReadResult.{ReadResult}
 use Rattle.image.specs.declared.WriteAnswer.{WriteAnswer}
 use Rattle.host_reading.specs.Layout.{runPlaces, countPlaces, machineSize, stateSize}
 use Rattle.host_words.specs.Words.{machineWords, stateWords, laid}
-use Rattle.host_calls.specs.Codes.{done, stopped, carriedOut, finishes, runCode, runCounts, fileCounts, gateCounts}
+use Rattle.host_calls.specs.Codes.{done, stopped, halted, carriedOut, finishes, runCode, runCounts, fileCounts, gateCounts}
 use Rattle.host_ends.specs.Ends.{Ends, RunEnds, FileEnds, GateEnds, ReadEnds, WriteEnds}
 
 -- a refusal's number is no code of a call that was carried out
 pub turned-down : (why : Refusal) → carriedOut (refusalNumber why) ≡ false
 turned-down why =
     let h = numbered why in
-    rw (ne-eqb (refusalNumber why) done (omega arith), ne-eqb (refusalNumber why) stopped (omega arith))
+    rw (
+      ne-eqb (refusalNumber why) done (omega arith),
+      ne-eqb (refusalNumber why) stopped (omega arith),
+      ne-eqb (refusalNumber why) halted (omega arith),
+    )
 
 module _ (written : ℕ → Bool) (code size : ℕ) (words : List ℕ) (due : ℕ) (counts lent result : List ℕ) where
   -- where no refusal's code is one with which the machine or state is written

@@ -1,5 +1,5 @@
-// The codes that a call returns beside a refusal's number, 1 to 15: carried out; carried out and ended "outside" or "undone"; what is lent
-// has not the layout's lengths.
+// The codes that a call returns beside a refusal's number, 1 to 15: carried out; carried out and ended "outside" or "undone"; carried out
+// and ended "no instruction"; what is lent has not the layout's lengths.
 use interpreter::RunAnswer;
 use refusals::refusal_number;
 ghost use mathlib.Core.Path.{_≡_};
@@ -9,6 +9,8 @@ pub const DONE: u32 = 0;
 
 pub const STOPPED: u32 = 100;
 
+pub const HALTED: u32 = 101;
+
 pub const MISFIT: u32 = 200;
 
 pub fn run_code(answer: RunAnswer) -> u32
@@ -17,6 +19,7 @@ pub fn run_code(answer: RunAnswer) -> u32
     match answer {
         RunAnswer::Finished => DONE,
         RunAnswer::Outside => STOPPED,
+        RunAnswer::NoInstruction => HALTED,
         RunAnswer::Refused(why) => refusal_number(why),
     }
 }

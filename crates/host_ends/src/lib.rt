@@ -4,6 +4,7 @@ mod codes;
 mod places;
 
 use codes::DONE;
+use codes::HALTED;
 pub use codes::MISFIT;
 use codes::STOPPED;
 use codes::run_code;
@@ -27,7 +28,7 @@ pub fn end_run(r: RunResult, machine: &mut [u32], result: &mut [u64]) -> u32
 {
     let answer = r.answer;
     let code = run_code(answer);
-    if (code == DONE) | (code == STOPPED) {
+    if (code == DONE) | (code == STOPPED) | (code == HALTED) {
         put_machine(r.machine, machine);
         put_two(r.ran as u64, r.clocks, result);
     }

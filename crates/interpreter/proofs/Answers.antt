@@ -1,17 +1,18 @@
 -- The public calls: refused, carried out, undone.
 use Prim.Native.Nat.{ℕ, _≤_}
 use mathlib.Core.Path.{_≡_, refl, sym, ap, _∙_}
+use mathlib.Core.Bool.{Bool, true, false}
 use mathlib.Core.List.{List, []}
 use native.Mathlib.Omega.{arith}
 use lib.ListN.{length}
 use Rattle.model.specs.declared.Machine.{Machine}
 use Rattle.model.specs.declared.Ending.{Ending}
-use Rattle.model.specs.declared.Ending.the-variants.{Finished, Outside}
+use Rattle.model.specs.declared.Ending.the-variants.{Finished, Outside, NoInstruction}
 use Rattle.model.specs.declared.Refusal.{Refusal}
 use Rattle.model.specs.declared.Verdict.{Verdict}
 use Rattle.model.specs.declared.Verdict.the-variants.{Accepted, Refused}
 use Rattle.model.specs.Words.{overlay}
-use Rattle.model.specs.Interpreter.{Run, begin, interpret}
+use Rattle.model.specs.Interpreter.{goesOn, Run, begin, interpret}
 use Rattle.model.specs.Journal.{journalPairs, journalWords}
 use Rattle.model.specs.Refusals.{verdictNumber, leftBy, runVerdict, fileVerdict}
 use Rattle.model.proofs.Stores.{overlaid}
@@ -33,10 +34,17 @@ use Rattle.interpreter.specs.Calls.{fileEnd, fileResult, memoryEnd, file
 pub finished-as : (e : Ending) → runAnswer e ≡ RunAnswer.Finished → e ≡ Finished
 finished-as Finished q = refl
 finished-as Outside q = cc
+finished-as NoInstruction q = cc
 
 pub outside-as : (e : Ending) → runAnswer e ≡ RunAnswer.Outside → e ≡ Outside
 outside-as Finished q = cc
 outside-as Outside q = refl
+outside-as NoInstruction q = cc
+
+pub halted-as : (e : Ending) → runAnswer e ≡ RunAnswer.NoInstruction → e ≡ NoInstruction
+halted-as Finished q = cc
+halted-as Outside q = cc
+halted-as NoInstruction q = refl
 
 module _ (memory waits : List ℕ) (start : Machine) (count : ℕ) where
   abbrev ran : Run
@@ -45,6 +53,7 @@ module _ (memory waits : List ℕ) (start : Machine) (count : ℕ) where
   answer-number : (e : Ending) → runNumber (runAnswer e) ≡ 0
   answer-number Finished = refl
   answer-number Outside = refl
+  answer-number NoInstruction = refl
 
   numbered : (v : Verdict) (r : Run) → runNumber (runResult v start r .answer) ≡ verdictNumber v
   numbered Accepted r = answer-number (r .ending)
@@ -97,6 +106,7 @@ module _ (memory journal : List ℕ) (start : Machine) (count : ℕ) where
   end-number : (e : Ending) (r : Run) (n : ℕ) → fileNumber (fileEnd e start r n .answer) ≡ 0
   end-number Finished r n = refl
   end-number Outside r n = refl
+  end-number NoInstruction r n = refl
 
   file-numbered : (v : Verdict) (r : Run) (n : ℕ) → fileNumber (fileResult v start r n .answer) ≡ verdictNumber v
   file-numbered Accepted r n = end-number (r .ending) r n
@@ -134,8 +144,8 @@ module _ {memory journal : List ℕ} {start : Machine} {count : ℕ} {v : Verdic
   file-refused {why} p = as-file memory journal start count (Refused why) (sym p ∙ e) refl refl refl
 
   module _ (p : v ≡ Accepted) {memory′ journal′ : List ℕ} {d : Ended} (h : EngineEnds memory [] journal start count memory′ journal′ d) where
-    ended : {x : Ending} → d .ending ≡ x → filed memory journal start count .ending ≡ x
-    ended f = sym (ap (λ (d : Ended). d .ending) (h .result)) ∙ f
+    ended : {v x : Bool} → v ≡ goesOn (d .ending) → v ≡ x → goesOn (filed memory journal start count .ending) ≡ x
+    ended told f = sym (told ∙ ap (λ (d : Ended). goesOn (d .ending)) (h .result)) ∙ f
 
     places : journal′ ≡ overlay (journalWords (journalPairs [] count (begin start memory 0))) journal
     places =
@@ -144,16 +154,16 @@ module _ {memory journal : List ℕ} {start : Machine} {count : ℕ} {v : Verdic
         omega (arith, words-length ps, pairs-le [] count (begin start memory 0), room-for-all memory journal count p e) in
         h .places ∙ overlaid journal (journalWords ps) fits
 
-    pub file-finished : d .ending ≡ Finished
+    pub file-finished : {v : Bool} → v ≡ goesOn (d .ending) → v ≡ true
         → FileRuns memory journal start count memory′ journal′
         (record { answer = FileAnswer.Finished; machine = d .machine; ran = d .ran; pairs = d .pairs })
-    file-finished f =
-        as-file memory journal start count Accepted (sym p ∙ e) (rw (h .result, ended f)) (h .words ∙ rw (ended f)) places
+    file-finished told f =
+        as-file memory journal start count Accepted (sym p ∙ e) (rw (h .result, ended told f)) (h .words ∙ rw (ended told f)) places
 
-    pub file-undone : d .ending ≡ Outside → {memory″ : List ℕ} → memory″ ≡ undone (d .pairs) journal′ memory′
+    pub file-undone : {v : Bool} → v ≡ goesOn (d .ending) → v ≡ false → {memory″ : List ℕ} → memory″ ≡ undone (d .pairs) journal′ memory′
         → FileRuns memory journal start count memory″ journal′
         (record { answer = FileAnswer.Undone; machine = start; ran = d .ran; pairs = d .pairs })
-    file-undone f u =
+    file-undone told f u =
         let restored = rw (h .result, places, h .words) at u in
-        as-file memory journal start count Accepted (sym p ∙ e) (rw (h .result, ended f))
-        ((restored ∙ back [] count (begin start memory 0) _) ∙ rw (ended f)) places
+        as-file memory journal start count Accepted (sym p ∙ e) (rw (h .result, ended told f))
+        ((restored ∙ back [] count (begin start memory 0) _) ∙ rw (ended told f)) places

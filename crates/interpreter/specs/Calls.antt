@@ -1,16 +1,17 @@
 -- The two public calls, run and file run: their results, the memory and the journal at exit, carried out or turned down. Document 01,
--- "Machine and instruction word", "Clocks", "File run and journal" and "Why a call is turned down".
+-- "Machine and instruction word", "Clocks", "File run and journal" and "Why a call is turned down"; CR 5.
 use Prim.Native.Nat.{ℕ}
 use mathlib.Core.Path.{_≡_}
+use mathlib.Core.Bool.{cond}
 use mathlib.Core.List.{List, []}
 use lib.ListN.{length}
 use Rattle.model.specs.declared.Machine.{Machine}
 use Rattle.model.specs.declared.Ending.{Ending}
-use Rattle.model.specs.declared.Ending.the-variants.{Finished, Outside}
+use Rattle.model.specs.declared.Ending.the-variants.{Finished, Outside, NoInstruction}
 use Rattle.model.specs.declared.Verdict.{Verdict}
 use Rattle.model.specs.declared.Verdict.the-variants.{Accepted, Refused}
 use Rattle.model.specs.Words.{overlay}
-use Rattle.model.specs.Interpreter.{Run, begin, interpret}
+use Rattle.model.specs.Interpreter.{goesOn, Run, begin, interpret}
 use Rattle.model.specs.Journal.{journalPairs, journalWords}
 use Rattle.model.specs.Refusals.{refusalNumber, verdictNumber, leftBy, runVerdict, fileVerdict}
 use Rattle.interpreter.specs.declared.RunAnswer.{RunAnswer}
@@ -20,10 +21,11 @@ use Rattle.interpreter.specs.declared.FileResult.{FileResult}
 
 -- ---- the run
 
--- "finished" or "outside"
+-- "finished", "outside" or "no instruction"
 abbrev pub runAnswer : Ending → RunAnswer
 runAnswer Finished = RunAnswer.Finished
 runAnswer Outside = RunAnswer.Outside
+runAnswer NoInstruction = RunAnswer.NoInstruction
 
 -- a run that is turned down returns its start, and has run nothing
 abbrev pub runResult : Verdict → Machine → Run → RunResult
@@ -36,6 +38,7 @@ runResult (Refused why) start r =
 abbrev pub runNumber : RunAnswer → ℕ
 runNumber RunAnswer.Finished = 0
 runNumber RunAnswer.Outside = 0
+runNumber RunAnswer.NoInstruction = 0
 runNumber (RunAnswer.Refused why) = refusalNumber why
 
 -- what a run of so many instructions returns, and the memory that it leaves
@@ -53,11 +56,12 @@ pub record Runs (memory waits : List ℕ) (start : Machine) (count : ℕ) (memor
 
 -- ---- the file run
 
--- "finished" with its state where the interpreter finishes, "undone" with the start where it is outside
+-- "finished" with its state where the interpreter finishes, "undone" with the start where it stopped
 abbrev pub fileEnd : Ending → Machine → Run → ℕ → FileResult
-fileEnd Finished start r pairs =
-    record { answer = FileAnswer.Finished; machine = r .machine; ran = r .ran; pairs = pairs }
-fileEnd Outside start r pairs = record { answer = FileAnswer.Undone; machine = start; ran = r .ran; pairs = pairs }
+fileEnd e start r pairs =
+    cond (goesOn e)
+    (record { answer = FileAnswer.Finished; machine = r .machine; ran = r .ran; pairs = pairs })
+    (record { answer = FileAnswer.Undone; machine = start; ran = r .ran; pairs = pairs })
 
 abbrev pub fileResult : Verdict → Machine → Run → ℕ → FileResult
 fileResult Accepted start r pairs = fileEnd (r .ending) start r pairs
@@ -66,8 +70,7 @@ fileResult (Refused why) start r pairs =
 
 -- "undone" leaves the memory as it was
 abbrev pub memoryEnd : Ending → List ℕ → Run → List ℕ
-memoryEnd Finished memory r = r .memory
-memoryEnd Outside memory r = memory
+memoryEnd e memory r = cond (goesOn e) (r .memory) memory
 
 abbrev pub fileNumber : FileAnswer → ℕ
 fileNumber FileAnswer.Finished = 0

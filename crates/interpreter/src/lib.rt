@@ -5,6 +5,7 @@ use model::Ending;
 use model::Machine;
 use model::Refusal;
 use model::Verdict;
+use step::goes_on;
 use verdicts::file_verdict;
 use verdicts::run_verdict;
 ghost use mathlib.Core.Path.{_≡_};
@@ -13,6 +14,7 @@ ghost use Rattle.interpreter.specs.Calls.{runAnswer, Runs, FileRuns};
 pub enum RunAnswer {
     Finished,
     Outside,
+    NoInstruction,
     Refused(Refusal),
 }
 
@@ -43,6 +45,7 @@ fn run_answer(ending: Ending) -> RunAnswer
     match ending {
         Ending::Finished => RunAnswer::Finished,
         Ending::Outside => RunAnswer::Outside,
+        Ending::NoInstruction => RunAnswer::NoInstruction,
     }
 }
 
@@ -73,7 +76,7 @@ pub fn run(memory: &mut [u32], waits: &[u16], start: Machine, count: u32) -> Run
     }
 }
 
-// Up to `count` instructions from `start`, without waits; each store to memory is journaled, and a run that comes outside is undone.
+// Up to `count` instructions from `start`, without waits; each store to memory is journaled, and a run that stops before the end is undone.
 pub fn file_run(memory: &mut [u32], journal: &mut [u32], start: Machine, count: u32) -> FileResult
     ensures { λ r. ⌜ FileRuns (now (memory .entry)) (now (journal .entry)) start count (now (memory .exit)) (now (journal .exit)) r ⌝ }
 {
@@ -88,25 +91,21 @@ pub fn file_run(memory: &mut [u32], journal: &mut [u32], start: Machine, count: 
             let none: [u16; 0] = [];
             let e = engine(memory, &none, journal, start, count);
             let ending = e.ending;
-            match ending {
-                Ending::Finished => {
-                    let last = e.machine;
-                    FileResult {
-                        answer: FileAnswer::Finished,
-                        machine: last,
-                        ran: e.ran,
-                        pairs: e.pairs,
-                    }
-                }
-                Ending::Outside => {
-                    undo(memory, &*journal, e.pairs);
-                    FileResult {
-                        answer: FileAnswer::Undone,
-                        machine: start,
-                        ran: e.ran,
-                        pairs: e.pairs,
-                    }
-                }
+            if goes_on(ending) {
+                let last = e.machine;
+                return FileResult {
+                    answer: FileAnswer::Finished,
+                    machine: last,
+                    ran: e.ran,
+                    pairs: e.pairs,
+                };
+            }
+            undo(memory, &*journal, e.pairs);
+            FileResult {
+                answer: FileAnswer::Undone,
+                machine: start,
+                ran: e.ran,
+                pairs: e.pairs,
             }
         }
     }

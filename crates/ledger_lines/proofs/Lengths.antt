@@ -1,7 +1,7 @@
 -- How long the texts are: none is longer than `longestText`.
 use Prim.Native.Nat.{ℕ, zero, suc, _+_, _-_, _*_, _≤_, _<_, zero-le}
 use mathlib.Core.Path.{_≡_, refl}
-use mathlib.Core.Bool.{Bool, true, false}
+use mathlib.Core.Bool.{Bool, true, false, cond}
 use mathlib.Core.List.{List, []}
 use native.Mathlib.Omega.{arith}
 use lib.Dec.{ltb}
@@ -10,9 +10,9 @@ use borrow.Author.Tests.{ltb-true, ltb-false}
 use Rattle.model.specs.declared.Flags.{Flags}
 use Rattle.model.specs.declared.Machine.{Machine}
 use Rattle.model.specs.declared.Ending.{Ending}
-use Rattle.model.specs.declared.Ending.the-variants.{Finished, Outside}
+use Rattle.model.specs.declared.Ending.the-variants.{Finished, Outside, NoInstruction}
 use Rattle.model.specs.declared.Refusal.{Refusal}
-use Rattle.model.specs.Interpreter.{Run, begin, interpret}
+use Rattle.model.specs.Interpreter.{goesOn, Run, begin, interpret}
 use Rattle.model.specs.Refusals.{refusalNumber}
 use Rattle.model.proofs.Waits.{no-wait}
 use Rattle.model.proofs.Bounds.{clocks-le, ran-le}
@@ -20,7 +20,7 @@ use Rattle.model.proofs.Verdicts.{numbered}
 use Rattle.image.specs.Reading.{Outcome, loaded, refused}
 use Rattle.text.specs.Text.{decimal}
 use Rattle.text.proofs.Figures.{length-digits, decimal-le}
-use Rattle.ledger_lines.specs.Lines.{mostLines, line, lineIf, lineBetween, lines, heading, endingText, endingWord, runText, refusedText, longestText, ledger}
+use Rattle.ledger_lines.specs.Lines.{mostLines, line, lineBetween, lines, heading, endingText, endingWord, runText, refusedText, longestText, ledger}
 
 -- ---- figures: counts and clocks are small
 
@@ -46,15 +46,15 @@ count-digits i n h small = go (ltb n 9) refl
 between-length : (before after : Run)
     → length (lineBetween before after) ≤ length (decimal (after .ran)) + length (decimal (after .clocks - before .clocks)) + 25
 unfolding lineBetween
-between-length before after = go (after .ending) _ _
+between-length before after = go (goesOn (after .ending)) _ _
   where
     own : ℕ
     own = after .clocks - before .clocks
 
-    go : (e : Ending) (address word : ℕ)
-        → length (lineIf e (line (after .ran) address word own (after .machine .flags))) ≤ length (decimal (after .ran)) + length (decimal own) + 25
-    go Finished address word = omega (arith, line-length (after .ran) address word own (after .machine .flags))
-    go Outside address word = omega arith
+    go : (t : Bool) (address word : ℕ)
+        → length (cond t (line (after .ran) address word own (after .machine .flags)) []) ≤ length (decimal (after .ran)) + length (decimal own) + 25
+    go true address word = omega (arith, line-length (after .ran) address word own (after .machine .flags))
+    go false address word = omega arith
 
 ending-length : (word : List ℕ) (count total : ℕ) → length (endingText word count total) ≡ length word + length (decimal count) + length (decimal total) + 2
 unfolding endingText
@@ -63,6 +63,7 @@ ending-length word count total = simp length-append (omega arith)
 word-length : (e : Ending) → length (endingWord e) ≤ 9
 word-length Finished = omega arith
 word-length Outside = omega arith
+word-length NoInstruction = omega arith
 
 module _ (start : Machine) (memory : List ℕ) where
   abbrev first : Run

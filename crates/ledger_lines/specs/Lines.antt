@@ -1,11 +1,12 @@
--- The ledger's text as a list of bytes: what is printed for an image. Document 01, "The ledger program".
+-- The ledger's text as a list of bytes: what is printed for an image. Document 01, "The ledger program"; CR 5.
 use Prim.Native.Nat.{ℕ, zero, suc, _-_}
+use mathlib.Core.Bool.{cond}
 use mathlib.Core.List.{List, [], _∷_, _++_}
 use Rattle.model.specs.declared.Flags.{Flags}
 use Rattle.model.specs.declared.Ending.{Ending}
-use Rattle.model.specs.declared.Ending.the-variants.{Finished, Outside}
+use Rattle.model.specs.declared.Ending.the-variants.{Finished, Outside, NoInstruction}
 use Rattle.model.specs.declared.Refusal.{Refusal}
-use Rattle.model.specs.Interpreter.{Run, begin, pc, instruction, interpret}
+use Rattle.model.specs.Interpreter.{pc, instruction, goesOn, Run, begin, interpret}
 use Rattle.model.specs.Refusals.{refusalNumber}
 use Rattle.image.specs.Reading.{Outcome, loaded, refused}
 use Rattle.text.specs.Text.{letters, space, lineFeed, decimal, hexadecimal, flagDigits}
@@ -34,19 +35,16 @@ line number address word clocks flags =
     ++ ended (flagDigits flags)
 
 -- the line of the instruction between two states of a run, if it ran
-abbrev pub lineIf : Ending → List ℕ → List ℕ
-lineIf Finished text = text
-lineIf Outside text = []
-
 unfoldable pub lineBetween : (before after : Run) → List ℕ
 lineBetween before after =
-    lineIf (after .ending)
+    cond (goesOn (after .ending))
     (line
     (after .ran)
     (pc (before .memory) (before .machine))
     (instruction (before .memory) (before .machine))
     (after .clocks - before .clocks)
     (after .machine .flags))
+    []
 
 -- the lines of the first n instructions, with an empty wait list
 unfoldable pub lines : ℕ → Run → List ℕ
@@ -57,6 +55,7 @@ lines (suc n) start = lines n start ++ lineBetween (interpret [] n start) (inter
 abbrev pub endingWord : Ending → List ℕ
 endingWord Finished = letters "finished "
 endingWord Outside = letters "outside "
+endingWord NoInstruction = letters "halted "
 
 unfoldable pub endingText : (word : List ℕ) → (count total : ℕ) → List ℕ
 endingText word count total = word ++ spaced (decimal count) ++ ended (decimal total)

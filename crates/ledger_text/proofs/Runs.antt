@@ -1,16 +1,17 @@
 -- A run of the interpreter told one instruction at a time: where it stands, one instruction more, and its text.
 use Prim.Native.Nat.{ℕ, suc, _+_, _-_, _≤_, _<_}
 use mathlib.Core.Path.{_≡_, refl, sym, ap, ap₂, _∙_}
+use mathlib.Core.Bool.{false, true≢false}
 use mathlib.Core.List.{List, [], _++_, append-nil}
 use native.Mathlib.Nat.{zero-add}
 use native.Mathlib.Numerals.{add-one}
 use native.Mathlib.Omega.{arith}
 use Rattle.model.specs.declared.Machine.{Machine}
-use Rattle.model.specs.declared.Ending.the-variants.{Finished, Outside}
-use Rattle.model.specs.Interpreter.{Run, pc, instruction, begin, execute, stop, advance, interpret}
+use Rattle.model.specs.declared.Ending.the-variants.{Finished}
+use Rattle.model.specs.Interpreter.{pc, instruction, goesOn, Run, begin, execute, stop, advance, interpret}
 use Rattle.model.proofs.Cases.{onward}
 use Rattle.model.proofs.Waits.{position-stays}
-use Rattle.model.proofs.Runs.{runAt, one-more, outside-stays}
+use Rattle.model.proofs.Runs.{runAt, one-more, stopped-stays}
 use Rattle.ledger_lines.specs.Lines.{mostLines, line, lineBetween, lines, heading, endingText, endingWord, runText}
 
 -- ---- one instruction more
@@ -32,31 +33,35 @@ module _ (m : Machine) (memory : List ℕ) (ran clocks : ℕ) where
       one-more [] (λ (o : Run). (o .ran ≡ 0 → ⊥) → advance [] here ≡ runAt (o .machine) (o .memory) 0 (ran + 1) (clocks + o .clocks)) alone
       (λ _ t _. rw (t, position-stays [] refl, zero-add))
       (λ _ _ ne. absurd (ne refl))
-      (λ e _. cc)
+      (λ e _. absurd (true≢false e))
 
-  pub stops : oneRun m memory .ran ≡ 0 → (advance [] here ≡ stop Outside here) × (oneRun m memory .memory ≡ memory)
+  -- where it did not run: how the run ends before it, with the memory as it was
+  pub stops : oneRun m memory .ran ≡ 0
+      → (advance [] here ≡ stop (oneRun m memory .ending) here) × (oneRun m memory .memory ≡ memory) × (goesOn (oneRun m memory .ending) ≡ false)
   unfolding interpret advance execute stop
   stops =
-      one-more [] (λ (o : Run). o .ran ≡ 0 → (advance [] here ≡ stop Outside here) × (o .memory ≡ memory)) alone
+      one-more []
+      (λ (o : Run). o .ran ≡ 0 → (advance [] here ≡ stop (o .ending) here) × (o .memory ≡ memory) × (goesOn (o .ending) ≡ false))
+      alone
       (λ _ _ e. absurd (omega arith))
-      (λ _ t _. (rw t, refl))
-      (λ e _. (cc, refl))
+      (λ _ t _. (rw t, refl, t))
+      (λ e _. absurd (true≢false e))
 
 -- ---- a run and its text after n instructions, from `start`
 
 module _ (start : Run) where
-  -- nothing changes after "outside"
-  between-same : (r : Run) → r .ending ≡ Outside → lineBetween r r ≡ []
+  -- nothing changes after a stop
+  between-same : (r : Run) → goesOn (r .ending) ≡ false → lineBetween r r ≡ []
   unfolding lineBetween
   between-same r e = rw e
 
-  lines-stay : {n k : ℕ} → n ≤ k → interpret [] n start .ending ≡ Outside → lines k start ≡ lines n start
+  lines-stay : {n k : ℕ} → n ≤ k → goesOn (interpret [] n start .ending) ≡ false → lines k start ≡ lines n start
   unfolding lines
   lines-stay {n} h e =
       onward (λ (k : ℕ). lines k start ≡ lines n start) h refl
       (λ k l p.
-      let i : interpret [] k start ≡ interpret [] n start = outside-stays [] start l e in
-      let j : interpret [] (suc k) start ≡ interpret [] n start = outside-stays [] start (omega arith) e in
+      let i : interpret [] k start ≡ interpret [] n start = stopped-stays [] start l e in
+      let j : interpret [] (suc k) start ≡ interpret [] n start = stopped-stays [] start (omega arith) e in
       ap₂ (λ (x y : List ℕ). x ++ y) p (ap₂ lineBetween i j ∙ between-same (interpret [] n start) e)
       ∙ append-nil (lines n start))
 
@@ -81,28 +86,31 @@ module _ (start : Run) where
         ∙ ap (λ (l : List ℕ). lines n start ++ l)
         (ap₂ lineBetween at (after ne) ∙ ap (λ (c : ℕ). line (n + 1) (pc memory m) (instruction memory m) c (oneRun m memory .machine .flags)) own)
 
-    last-run : oneRun m memory .ran ≡ 0 → interpret [] (suc n) start ≡ stop Outside (runAt m memory 0 n clocks)
+    last-run : oneRun m memory .ran ≡ 0 → interpret [] (suc n) start ≡ stop (oneRun m memory .ending) (runAt m memory 0 n clocks)
     unfolding interpret
     last-run e = ap (advance []) at ∙ stops m memory n clocks e .0
 
     last-lines : oneRun m memory .ran ≡ 0 → lines (suc n) start ≡ lines n start
     unfolding lines lineBetween stop
-    last-lines e = ap₂ (λ (a b : Run). lines n start ++ lineBetween a b) at (last-run e) ∙ append-nil (lines n start)
+    last-lines e =
+        ap₂ (λ (a b : Run). lines n start ++ lineBetween a b) at (last-run e) ∙ rw (stops m memory n clocks e .2) (append-nil (lines n start))
 
-    is-outside : oneRun m memory .ran ≡ 0 → interpret [] (suc n) start .ending ≡ Outside
+    has-stopped : oneRun m memory .ran ≡ 0 → goesOn (interpret [] (suc n) start .ending) ≡ false
     unfolding stop
-    is-outside e = ap (λ (r : Run). r .ending) (last-run e)
+    has-stopped e = ap (λ (r : Run). goesOn (r .ending)) (last-run e) ∙ stops m memory n clocks e .2
 
-    pub outside-run : n < mostLines → oneRun m memory .ran ≡ 0 → interpret [] mostLines start ≡ stop Outside (runAt m memory 0 n clocks)
-    outside-run h e = outside-stays [] start h (is-outside e) ∙ last-run e
+    pub stopped-run : n < mostLines → oneRun m memory .ran ≡ 0
+        → interpret [] mostLines start ≡ stop (oneRun m memory .ending) (runAt m memory 0 n clocks)
+    stopped-run h e = stopped-stays [] start h (has-stopped e) ∙ last-run e
 
-    pub outside-text : n < mostLines → oneRun m memory .ran ≡ 0 → heading ++ lines n start ++ endingText (endingWord Outside) n clocks ≡ runText start
+    pub stopped-text : n < mostLines → oneRun m memory .ran ≡ 0
+        → heading ++ lines n start ++ endingText (endingWord (oneRun m memory .ending)) n clocks ≡ runText start
     unfolding runText stop
-    outside-text h e =
+    stopped-text h e =
         sym
         (ap₂ (λ (l : List ℕ) (r : Run). heading ++ l ++ endingText (endingWord (r .ending)) (r .ran) (r .clocks))
-        (lines-stay h (is-outside e) ∙ last-lines e)
-        (outside-run h e))
+        (lines-stay h (has-stopped e) ∙ last-lines e)
+        (stopped-run h e))
 
     pub finished-text : n ≡ mostLines → heading ++ lines n start ++ endingText (endingWord Finished) n clocks ≡ runText start
     unfolding runText

@@ -5,20 +5,27 @@ use mathlib.Core.List.{List, []}
 use native.Mathlib.Omega.{arith}
 use lib.ListN.{length}
 use Rattle.model.specs.declared.Machine.{Machine}
-use Rattle.model.specs.declared.Ending.the-variants.{Finished, Outside}
+use Rattle.model.specs.declared.Ending.{Ending}
+use Rattle.model.specs.declared.Ending.the-variants.{Finished, Outside, NoInstruction}
 use Rattle.model.specs.declared.Verdict.the-variants.{Accepted}
 use Rattle.model.specs.Interpreter.{Run, pc, instruction, begin, stop, interpret}
 use Rattle.model.specs.Refusals.{mostWords, runVerdict}
 use Rattle.model.proofs.Runs.{runAt}
 use Rattle.model.proofs.Verdicts.{run-accepted}
 use Rattle.interpreter.specs.declared.RunResult.{RunResult}
-use Rattle.interpreter.specs.Calls.{runResult, Runs}
+use Rattle.interpreter.specs.Calls.{runAnswer, runResult, Runs}
 use Rattle.interpreter.proofs.Answers.{returned, left-in}
 use Rattle.ledger_lines.specs.Lines.{mostLines, line, lines, heading, endingText, endingWord}
 use Rattle.ledger_lines.proofs.Lengths.{clocks-small, lines-length}
-use Rattle.ledger_text.specs.Parts.{Extends, RunPuts}
+use Rattle.ledger_text.specs.Parts.{Extends, endingOf, RunPuts}
 use Rattle.ledger_text.proofs.Parts.{_⊳_}
-use Rattle.ledger_text.proofs.Runs.{oneRun, stops, next-run, next-lines, outside-run, outside-text, finished-text}
+use Rattle.ledger_text.proofs.Runs.{oneRun, stops, next-run, next-lines, stopped-run, stopped-text, finished-text}
+
+-- what a run answers tells how it ended
+ending-told : (e : Ending) → endingOf (runAnswer e) ≡ e
+ending-told Finished = refl
+ending-told Outside = refl
+ending-told NoInstruction = refl
 
 -- ---- the loop, from a buffer that holds the heading
 
@@ -91,18 +98,20 @@ module _ {start : Machine} {memory₀ out₀ : List ℕ} {at₀ : ℕ} where
             room = same-room ∙ a .room;
           }
 
-      -- the run comes outside
-      pub outside : {out₋ out′ : List ℕ} {q : ℕ} → r .ran ≡ 0 → ran < mostLines → Extends out₋ 0 heading out₀ at₀
-          → Extends out at (endingText (endingWord Outside) ran clocks) out′ q → RunPuts start memory₀ out₋ memory′ out′ q
+      -- the run stops
+      pub stopped : {e : Ending} {out₋ out′ : List ℕ} {q : ℕ} → r .ran ≡ 0 → ran < mostLines → Extends out₋ 0 heading out₀ at₀
+          → e ≡ endingOf (r .answer) → Extends out at (endingText (endingWord e) ran clocks) out′ q → RunPuts start memory₀ out₋ memory′ out′ q
       unfolding stop
-      outside none less top put =
+      stopped {e} none less top said put =
           let stays : oneRun machine memory .ran ≡ 0 = sym (ap (λ (x : RunResult). x .ran) now-is) ∙ none in
+          let why : e ≡ oneRun machine memory .ending =
+          said ∙ ap (λ (x : RunResult). endingOf (x .answer)) now-is ∙ ending-told (oneRun machine memory .ending) in
           record {
-            text = rw (outside-text run₀ (a .state) less stays) at (top ⊳ a .text ⊳ put);
+            text = rw (stopped-text run₀ (a .state) less stays) at (top ⊳ a .text ⊳ (rw why at put));
             words =
                 words-are
                 ∙ stops machine memory ran clocks stays .1
-                ∙ sym (ap (λ (x : Run). x .memory) (outside-run run₀ (a .state) less stays));
+                ∙ sym (ap (λ (x : Run). x .memory) (stopped-run run₀ (a .state) less stays));
           }
 
     -- all instructions ran

@@ -66,6 +66,7 @@ fn put_ending_word(out: &mut [u8], at: usize, ending: Ending) -> usize
     match ending {
         Ending::Finished => at + put_text(out, at, b"finished "),
         Ending::Outside => at + put_text(out, at, b"outside "),
+        Ending::NoInstruction => at + put_text(out, at, b"halted "),
     }
 }
 

@@ -2,6 +2,7 @@
 use super::lines::put_ending;
 use super::lines::put_heading;
 use super::lines::put_line;
+use interpreter::RunAnswer;
 use interpreter::RunResult;
 use interpreter::run;
 use model::Ending;
@@ -14,7 +15,7 @@ ghost use lib.ListN.{length};
 ghost use Rattle.model.specs.Words.{wordAt};
 ghost use Rattle.model.specs.Refusals.{mostWords};
 ghost use Rattle.interpreter.specs.Calls.{Runs};
-ghost use Rattle.ledger_text.specs.Parts.{RunPuts};
+ghost use Rattle.ledger_text.specs.Parts.{endingOf, RunPuts};
 
 const MOST_LINES: u64 = 16;
 
@@ -32,6 +33,18 @@ fn run_one(memory: &mut [u32], machine: Machine) -> RunResult
     run(memory, &no_waits, machine, 1)
 }
 
+// How a run ended. One on an image's words is never refused.
+fn ending_of(answer: RunAnswer) -> Ending
+    ensures { λ r. ⌜ r ≡ endingOf answer ⌝ }
+{
+    match answer {
+        RunAnswer::Finished => Ending::Finished,
+        RunAnswer::Outside => Ending::Outside,
+        RunAnswer::NoInstruction => Ending::NoInstruction,
+        RunAnswer::Refused(_) => Ending::Outside,
+    }
+}
+
 // Runs one instruction at a time, as the line shows what was there before it.
 pub fn put_run(memory: &mut [u32], start: Machine, out: &mut [u8]) -> usize
     requires { ⌜ (0 < length (now memory)) × (length (now memory) ≤ mostWords) ⌝ }
@@ -45,9 +58,9 @@ pub fn put_run(memory: &mut [u32], start: Machine, out: &mut [u8]) -> usize
         let address = machine.regs[0];
         let word = word_under(&*memory, address);
         let step = run_one(memory, machine);
-        // A run on an image's words is never refused: what did not run came outside.
         if step.ran == 0 {
-            return put_ending(out, at, Ending::Outside, ran, clocks);
+            let answer = step.answer;
+            return put_ending(out, at, ending_of(answer), ran, clocks);
         }
         let next = step.machine;
         let flags = next.flags;

@@ -17,8 +17,8 @@ module _ {A : Type 0} where
   pub cond-false : {t : Bool} (x y : A) → t ≡ false → y ≡ cond t x y
   cond-false x y e = rw e
 
-  -- what tells the two apart tells the truth
-  pub tells : (f : A → Bool) (t : Bool) {x y z : A} → f x ≡ true → f y ≡ false → z ≡ cond t x y → f z ≡ t
+  -- what is true of the first, and of the second as the choice is, tells the choice
+  pub tells : (f : A → Bool) (t : Bool) {x y z : A} → f x ≡ true → f y ≡ t → z ≡ cond t x y → f z ≡ t
   tells f true p q e = ap f e ∙ p
   tells f false p q e = ap f e ∙ q
 

@@ -1,4 +1,5 @@
--- Rows past the table, and one clock by its cases: an access's last clock, one before it, an address that is absent, a row that is no access.
+-- Rows past the accesses, row 12, and one clock by its cases: an access's last clock, one before it, an address that is absent, a row that
+-- is no access.
 use Prim.Native.Nat.{ℕ, zero, suc, _≤_}
 use mathlib.Core.Path.{_≡_, refl, sym}
 use mathlib.Core.Bool.{Bool, true, false, cond}
@@ -7,12 +8,17 @@ use native.Mathlib.Omega.{arith}
 use lib.ListN.{List·getD-eq-default}
 use Rattle.model.specs.declared.GateState.{GateState}
 use Rattle.model.specs.Words.{present}
-use Rattle.model.specs.GateMachine.{Gate, withAccess, onState, work, accessRows, isAccess, remaining, positionNow, workOrWait}
+use Rattle.model.specs.GateMachine.{Gate, withAccess, onState, work, accessRows, isAccess, remaining, positionNow, workOrWait, clock}
 
--- past the table there is no access
+-- past row 11 there is no access
 pub access-past : (r : ℕ) → 12 ≤ r → false ≡ isAccess r
 unfolding isAccess
 access-past r h = sym (List·getD-eq-default accessRows false {n = r} (omega arith))
+
+-- in row 12 no clock changes anything
+pub halted-stands : (waits : List ℕ) (g : Gate) → g .state .row ≡ 12 → clock waits g ≡ g
+unfolding clock work isAccess
+halted-stands waits g e = rw e
 
 module _ (waits : List ℕ) (g : Gate) where
   abbrev s : GateState

@@ -1,4 +1,4 @@
--- One instruction that has its addresses: the gate machine comes, in the interpreter's clocks, to the interpreter's next machine.
+-- One instruction that runs: the gate machine comes, in the interpreter's clocks, to the interpreter's next machine.
 use Prim.Native.Nat.{ℕ, _+_}
 use mathlib.Core.Path.{_≡_, refl, _∙_}
 use mathlib.Core.Bool.{Bool, true, false, not, cond, _&&_, _||_}
@@ -7,12 +7,13 @@ use native.Mathlib.Omega.{arith}
 use Rattle.arithmetic.specs.Words.{asNumber}
 use Rattle.model.specs.declared.Machine.{Machine}
 use Rattle.model.specs.declared.GateState.{GateState}
-use Rattle.model.specs.Words.{wordAt, present, storeWord}
+use Rattle.model.specs.Words.{isInstruction, wordAt, present, storeWord}
 use Rattle.model.specs.Operands.{operandB, inMemory, registerWord, setRegister}
 use Rattle.model.specs.Waits.{nextPosition, positionAfter}
 use Rattle.model.specs.Interpreter as I
 use Rattle.model.specs.GateMachine.{Gate, gate, withRow, withRegs, withAddress, withA, withB, withAccess, addressPc, readInstruction, stepPc, compute, stepUpA, stepUpB, work, isAccess, clock}
 use Rattle.model.specs.Agreement.{machineOf}
+use Rattle.model.proofs.Clocks.{halted-stands}
 use Rattle.model.proofs.Reach.{Reaches, joined, costs, stays, row, accessed}
 
 -- ---- an operand's read, from the row that prepared it: `mem` says whether it is in memory, and `word` is then its address
@@ -82,10 +83,12 @@ module _ (waits memory : List ℕ) (s : GateState) where
   abbrev pub wordA : ℕ
   wordA = registerWord (I.opA memory m) (I.regsA memory m)
 
-  -- the state in row 3, then before and in row 5, 7 and 10
+  -- the state with the word latched, in row 3, then before and in row 5, 7 and 10
+  abbrev pub latched : GateState
+  latched = readInstruction memory (withAccess (nextPosition waits (s .position)) false 0 (addressPc memory (idle s)))
+
   abbrev fetched : GateState
-  fetched =
-      stepPc memory (readInstruction memory (withAccess (nextPosition waits (s .position)) false 0 (addressPc memory (idle s))))
+  fetched = stepPc memory latched
 
   abbrev pub downA : GateState
   downA = withRegs (I.regsA memory m) fetched
@@ -110,12 +113,23 @@ module _ (waits memory : List ℕ) (s : GateState) where
     abbrev pub next : Gate
     next = stepUpB (gate (stepUpA memory writtenB) (I.nextMemory memory m) f)
 
-    pub fetches : present memory (I.pc memory m) ≡ true → Reaches waits (gate (idle s) memory f) 3 1 (gate fetched memory f)
+    pub reads : present memory (I.pc memory m) ≡ true → Reaches waits (gate (idle s) memory f) 2 1 (gate latched memory f)
     unfolding clock work isAccess
-    fetches here =
+    reads here =
         joined waits {h = gate (addressPc memory (idle s)) memory f} (row waits refl refl)
-        (joined waits (accessed waits (addressPc memory (idle s)) memory f refl here (s .position) (s .left) refl refl)
-        (row waits refl refl))
+        (accessed waits (addressPc memory (idle s)) memory f refl here (s .position) (s .left) refl refl)
+
+    -- a word that is no instruction
+    pub halts : isInstruction (I.instruction memory m) ≡ false → clock waits (gate latched memory f) ≡ gate latched memory f
+    halts none = halted-stands waits (gate latched memory f) (rw none)
+
+    steps-pc : isInstruction (I.instruction memory m) ≡ true → clock waits (gate latched memory f) ≡ gate fetched memory f
+    unfolding clock work isAccess
+    steps-pc one = rw one
+
+    pub fetches : present memory (I.pc memory m) ≡ true → isInstruction (I.instruction memory m) ≡ true
+        → Reaches waits (gate (idle s) memory f) 3 1 (gate fetched memory f)
+    fetches here one = joined waits (reads here) (row waits (steps-pc one) refl)
 
     pub takes-a : I.presentA memory m ≡ true
         → Reaches waits (gate fetched memory f) (1 + asNumber (inMemory (I.opA memory m))) (0 + asNumber (inMemory (I.opA memory m))) (gate takenA memory f)
@@ -144,8 +158,8 @@ module _ (waits memory : List ℕ) (s : GateState) where
     finishes =
         joined waits {h = gate (stepUpA memory writtenB) (I.nextMemory memory m) f} (row waits refl refl) (row waits refl refl)
 
-    pub executes : present memory (I.pc memory m) ≡ true → I.presentA memory m ≡ true → I.presentB memory m ≡ true
+    pub executes : present memory (I.pc memory m) ≡ true → isInstruction (I.instruction memory m) ≡ true → I.presentA memory m ≡ true → I.presentB memory m ≡ true
         → Reaches waits (gate (idle s) memory f) (I.baseClocks memory m) (I.accesses memory m) next
-    executes hereI hereA hereB =
+    executes hereI one hereA hereB =
         costs waits (omega arith) (omega arith)
-        (joined waits (fetches hereI) (joined waits (takes-a hereA) (joined waits (takes-b hereB) (joined waits (writes-b hereB) finishes))))
+        (joined waits (fetches hereI one) (joined waits (takes-a hereA) (joined waits (takes-b hereB) (joined waits (writes-b hereB) finishes))))

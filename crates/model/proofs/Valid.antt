@@ -10,10 +10,11 @@ use borrow.Author.Tests.{lt-ltb, le-leb, leb-true, eqb-true}
 use Rattle.model.specs.declared.GateState.{GateState}
 use Rattle.model.specs.declared.Refusal.the-variants.{LongWaitList, BadGateState}
 use Rattle.model.specs.declared.Verdict.the-variants.{Accepted}
+use Rattle.model.specs.Words.{isInstruction, wordAt}
 use Rattle.model.specs.Operands.{operandA, operandB, inMemory}
 use Rattle.model.specs.Alu.{stores}
 use Rattle.model.specs.Waits.{positionFits}
-use Rattle.model.specs.GateMachine.{Gate, gate, withAccess, onState, addressPc, readInstruction, stepPc, prepareA, readA, prepareB, readB, compute, writeRegister, writeMemory, stepUpA, stepUpB, rows, work, isAccess, positionNow, clock, gateRun}
+use Rattle.model.specs.GateMachine.{Gate, gate, withAccess, onState, addressPc, readInstruction, stepPc, prepareA, readA, prepareB, readB, compute, writeRegister, writeMemory, stepUpA, stepUpB, halt, rows, work, isAccess, positionNow, clock, gateRun}
 use Rattle.model.specs.Refusals.{mostWaits, _then_, memoryFits, waitsFit, accessFormed, stateFits, gateVerdict}
 use Rattle.model.specs.Agreement.{gateFrom}
 use Rattle.model.proofs.Cases.{pick, Each, past, _▸_}
@@ -24,22 +25,22 @@ use Rattle.model.proofs.Verdicts.{demanded, both}
 -- ---- what a run asks of a state
 
 pub record Valid (waits : List ℕ) (s : GateState) : Type 0 where
-  pub row : s .row < 12
+  pub row : s .row < 13
   pub position : positionFits waits (s .position) ≡ true
   pub access : accessFormed s ≡ true
 
 module _ (waits : List ℕ) (s : GateState) where
   pub valid-verdict : Valid waits s → stateFits waits s ≡ Accepted
-  valid-verdict v = rw (le-leb (s .row) 11 (omega (arith, v .row)), v .position, v .access)
+  valid-verdict v = rw (le-leb (s .row) 12 (omega (arith, v .row)), v .position, v .access)
 
   verdict-valid : stateFits waits s ≡ Accepted → Valid waits s
   verdict-valid e =
-      let (rp, a) = and-eq-true-iff (leb (s .row) 11 && positionFits waits (s .position)) (accessFormed s) .0 (demanded _ BadGateState e) in
-      let (r, p) = and-eq-true-iff (leb (s .row) 11) (positionFits waits (s .position)) .0 rp in
-      record { row = omega (arith, leb-true (s .row) 11 r); position = p; access = a }
+      let (rp, a) = and-eq-true-iff (leb (s .row) 12 && positionFits waits (s .position)) (accessFormed s) .0 (demanded _ BadGateState e) in
+      let (r, p) = and-eq-true-iff (leb (s .row) 12) (positionFits waits (s .position)) .0 rp in
+      record { row = omega (arith, leb-true (s .row) 12 r); position = p; access = a }
 
   -- with no access begun
-  pub resting : s .row < 12 → positionFits waits (s .position) ≡ true → s .begun ≡ false → s .left ≡ 0 → Valid waits s
+  pub resting : s .row < 13 → positionFits waits (s .position) ≡ true → s .begun ≡ false → s .left ≡ 0 → Valid waits s
   resting r p b l = record { row = r; position = p; access = rw (b, l) }
 
 -- a row that is no access has none begun
@@ -53,21 +54,21 @@ none-begun s a v = go (s .begun) refl (rw a at v)
 -- ---- a row leads to a row of the table, and leaves the access in hand and the memory's length
 
 record Kept (g h : Gate) : Type 0 where
-  row : h .state .row < 12
+  row : h .state .row < 13
   access : h .state ≡ withAccess (g .state .position) (g .state .begun) (g .state .left) (h .state)
   words : length (h .memory) ≡ length (g .memory)
 
 Keeps : (Gate → Gate) → Type 0
-Keeps f = (g : Gate) → g .state .row < 12 → Kept g (f g)
+Keeps f = (g : Gate) → g .state .row < 13 → Kept g (f g)
 
-keeps : (h : List ℕ → GateState → GateState) → ((m : List ℕ) (s : GateState) → h m s .row < 12)
+keeps : (h : List ℕ → GateState → GateState) → ((m : List ℕ) (s : GateState) → h m s .row < 13)
     → ((m : List ℕ) (s : GateState) → h m s ≡ withAccess (s .position) (s .begun) (s .left) (h m s)) → Keeps (onState h)
 unfolding Keeps
 keeps h r a g l = record { row = r (g .memory) (g .state); access = a (g .memory) (g .state); words = refl }
 
 -- a row with two ways on
 abbrev Low : GateState → Type 0
-Low t = t .row < 12
+Low t = t .row < 13
 
 abbrev Same : GateState → GateState → Type 0
 Same s t = t ≡ withAccess (s .position) (s .begun) (s .left) t
@@ -84,17 +85,18 @@ rows-keep : Each (λ r. Keeps (getD rows r (λ h. h)))
 unfolding Keeps
 rows-keep =
     keeps addressPc (λ m s. omega arith) (λ m s. refl)
-    ▸ keeps readInstruction (λ m s. omega arith) (λ m s. refl)
+    ▸ keeps readInstruction (λ m s. pick (λ (n : ℕ). n < 13) (isInstruction (wordAt m (s .address))) (omega arith) (omega arith)) (λ m s. refl)
     ▸ keeps stepPc (λ m s. omega arith) (λ m s. refl)
     ▸ keeps prepareA (λ m s. pick Low (inMemory (operandA (s .instruction))) (omega arith) (omega arith)) (λ m s. pick (Same s) (inMemory (operandA (s .instruction))) refl refl)
     ▸ keeps readA (λ m s. omega arith) (λ m s. refl)
     ▸ keeps prepareB (λ m s. pick Low (inMemory (operandB (s .instruction))) (omega arith) (omega arith)) (λ m s. pick (Same s) (inMemory (operandB (s .instruction))) refl refl)
     ▸ keeps readB (λ m s. omega arith) (λ m s. refl)
-    ▸ keeps compute (λ m s. pick (λ (n : ℕ). n < 12) (stores (s .instruction) (s .flags)) (pick (λ (n : ℕ). n < 12) (inMemory (operandB (s .instruction))) (omega arith) (omega arith)) (omega arith)) (λ m s. refl)
+    ▸ keeps compute (λ m s. pick (λ (n : ℕ). n < 13) (stores (s .instruction) (s .flags)) (pick (λ (n : ℕ). n < 13) (inMemory (operandB (s .instruction))) (omega arith) (omega arith)) (omega arith)) (λ m s. refl)
     ▸ keeps writeRegister (λ m s. omega arith) (λ m s. refl)
     ▸ writes-keep
     ▸ keeps stepUpA (λ m s. omega arith) (λ m s. refl)
     ▸ finish-keeps
+    ▸ keeps halt (λ m s. omega arith) (λ m s. refl)
     ▸ past (λ r g l. record { row = l; access = refl; words = refl })
 
 work-keeps : Keeps work
@@ -113,7 +115,7 @@ module _ (waits : List ℕ) where
   position-fits s h = pick (λ (p : ℕ). positionFits waits p ≡ true) (s .begun) h (next-fits waits (s .position) h)
 
   -- the work of a row that has no access begun
-  works : (words : ℕ) (g : Gate) → g .state .row < 12 → positionFits waits (g .state .position) ≡ true → g .state .begun ≡ false → g .state .left ≡ 0 → length (g .memory) ≡ words → Fine waits words (work g)
+  works : (words : ℕ) (g : Gate) → g .state .row < 13 → positionFits waits (g .state .position) ≡ true → g .state .begun ≡ false → g .state .left ≡ 0 → length (g .memory) ≡ words → Fine waits words (work g)
   unfolding Keeps
   works words g r p b l w =
       let k = work-keeps g r in
@@ -162,7 +164,7 @@ module _ (memory waits : List ℕ) (start : GateState) (e : gateVerdict memory w
   comes-fine : (i : ℕ) → Fine waits (length memory) (gateRun waits i (gateFrom start memory))
   comes-fine i = run-fine waits (length memory) i (gateFrom start memory) (record { valid = verdict-valid waits start (passed .state); length = refl })
 
-  pub row-there : (i : ℕ) {s : GateState} {m : List ℕ} {f : ℕ} → gate s m f ≡ gateRun waits i (gateFrom start memory) → s .row < 12
+  pub row-there : (i : ℕ) {s : GateState} {m : List ℕ} {f : ℕ} → gate s m f ≡ gateRun waits i (gateFrom start memory) → s .row < 13
   row-there i q = rw (ap (λ (g : Gate). g .state .row) q) (comes-fine i .valid .row)
 
   -- the verdict looks at the memory's length and at the state's validity

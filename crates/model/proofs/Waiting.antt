@@ -4,8 +4,7 @@ use mathlib.Core.Path.{_≡_, refl, sym, ap, _∙_}
 use mathlib.Core.Bool.{Bool, true, false, cond}
 use mathlib.Core.List.{List, []}
 use Rattle.model.specs.declared.Ending.{Ending}
-use Rattle.model.specs.declared.Ending.the-variants.{Finished, Outside}
-use Rattle.model.specs.Interpreter.{Run, inside, execute, stop, advance, interpret}
+use Rattle.model.specs.Interpreter.{goesOn, nextEnding, nextRuns, Run, execute, stop, advance, interpret}
 use Rattle.model.specs.Waiting.{Work, workOf, WaitsOnlyWait}
 
 -- a run that did this work, with no clocks and at the head of its list
@@ -18,14 +17,17 @@ next w = workOf (advance [] (bare w))
 
 advance-work : (waits : List ℕ) (r : Run) → workOf (advance waits r) ≡ next (workOf r)
 unfolding next advance execute stop
-advance-work waits r = go (r .ending) (inside (r .memory) (r .machine))
+advance-work waits r = go (goesOn (r .ending)) (nextRuns (r .memory) (r .machine))
   where
-    go : (e : Ending) (t : Bool)
-        → workOf (elim e [ Finished ↦ cond t (execute waits r) (stop Outside r) | Outside ↦ r ])
-        ≡ workOf (elim e [ Finished ↦ cond t (execute [] (bare (workOf r))) (stop Outside (bare (workOf r))) | Outside ↦ bare (workOf r) ])
-    go Finished true = refl
-    go Finished false = refl
-    go Outside t = refl
+    why : Ending
+    why = nextEnding (r .memory) (r .machine)
+
+    go : (s t : Bool)
+        → workOf (cond s (cond t (execute waits r) (stop why r)) r)
+        ≡ workOf (cond s (cond t (execute [] (bare (workOf r))) (stop why (bare (workOf r)))) (bare (workOf r)))
+    go true true = refl
+    go true false = refl
+    go false t = refl
 
 pub waits-only-wait : WaitsOnlyWait
 unfolding interpret

@@ -1,4 +1,4 @@
--- The gate machine: twelve rows of a step table, the access protocol, one clock, and the run of k clocks. Document 01, "Clocks".
+-- The gate machine: thirteen rows of a step table, the access protocol, one clock, and the run of k clocks. Document 01, "Clocks"; CR 5.
 use Prim.Native.Nat.{ℕ, zero, suc, _+_, _-_}
 use mathlib.Core.Bool.{Bool, true, false, cond}
 use mathlib.Core.List.{List, [], _∷_}
@@ -6,7 +6,7 @@ use lib.ListN.{getD}
 use Rattle.model.specs.declared.Flags.{Flags}
 use Rattle.model.specs.declared.Operand.{Operand}
 use Rattle.model.specs.declared.GateState.{GateState}
-use Rattle.model.specs.Words.{inc, wordAt, present, storeWord}
+use Rattle.model.specs.Words.{inc, isInstruction, wordAt, present, storeWord}
 use Rattle.model.specs.Operands.{operandA, operandB, inMemory, stepped, stepDown, stepUp, registerWord, setRegister}
 use Rattle.model.specs.Alu.{alu, flagsAfter, stores}
 use Rattle.model.specs.Waits.{waitAt, nextPosition}
@@ -90,8 +90,11 @@ onState f g = gate (f (g .memory) (g .state)) (g .memory) (g .finished)
 abbrev pub addressPc : List ℕ → GateState → GateState
 addressPc memory s = withRow 1 (withAddress (wordAt (s .regs) 0) s)
 
+-- CR 5: a word that is no instruction leads to row 12
 abbrev pub readInstruction : List ℕ → GateState → GateState
-readInstruction memory s = withRow 2 (withInstruction (wordAt memory (s .address)) s)
+readInstruction memory s =
+    let word = wordAt memory (s .address) in
+    withRow (cond (isInstruction word) 2 12) (withInstruction word s)
 
 abbrev pub stepPc : List ℕ → GateState → GateState
 stepPc memory s = withRow 3 (withRegs (stepped inc 0 (s .regs)) s)
@@ -138,6 +141,10 @@ stepUpB g =
     let s = g .state in
     gate (withRow 0 (withRegs (stepUp (operandB (s .instruction)) (s .regs)) s)) (g .memory) (g .finished + 1)
 
+-- CR 5: row 12 does nothing, and leads to itself
+abbrev pub halt : List ℕ → GateState → GateState
+halt memory s = withRow 12 s
+
 abbrev pub rows : List (Gate → Gate)
 rows =
     onState addressPc  -- 0: address from r0
@@ -152,6 +159,7 @@ rows =
     ∷ writeMemory  -- 9: store to memory
     ∷ onState stepUpA  -- 10: A step up
     ∷ stepUpB  -- 11: B step up; one more finished
+    ∷ onState halt  -- 12: halted
     ∷ []
 
 -- the work of the row that the machine is in; there is no row past the table

@@ -1,7 +1,7 @@
--- The interpreter: one instruction in the order (i) to (vi), its clocks, and the run of n instructions with "outside". Document 01,
--- "Machine and instruction word" and, for the clocks, "Clocks".
+-- The interpreter: one instruction in the order (i) to (vi), its clocks, and the run of n instructions with "outside" and "no
+-- instruction". Document 01, "Machine and instruction word" and, for the clocks, "Clocks"; CR 5.
 use Prim.Native.Nat.{ℕ, zero, suc, _+_}
-use mathlib.Core.Bool.{Bool, cond, _&&_}
+use mathlib.Core.Bool.{Bool, true, false, cond, _&&_}
 use mathlib.Core.List.{List}
 use Rattle.arithmetic.specs.declared.AluOut.{AluOut}
 use Rattle.arithmetic.specs.Words.{asNumber}
@@ -9,8 +9,8 @@ use Rattle.model.specs.declared.Flags.{Flags}
 use Rattle.model.specs.declared.Machine.{Machine}
 use Rattle.model.specs.declared.Operand.{Operand}
 use Rattle.model.specs.declared.Ending.{Ending}
-use Rattle.model.specs.declared.Ending.the-variants.{Finished, Outside}
-use Rattle.model.specs.Words.{inc, wordAt, present}
+use Rattle.model.specs.declared.Ending.the-variants.{Finished, Outside, NoInstruction}
+use Rattle.model.specs.Words.{inc, isInstruction, wordAt, present}
 use Rattle.model.specs.Operands.{operandA, operandB, inMemory, stepped, stepDown, stepUp, registerWord, operandPresent, operandValue, storeInRegister, storeInMemory}
 use Rattle.model.specs.Alu.{alu, flagsAfter, stores}
 use Rattle.model.specs.Waits.{waitSum, positionAfter}
@@ -24,6 +24,14 @@ costOf memA memB stored = 8 + asNumber memA + asNumber memB + asNumber stored
 -- the fetch, A in memory, B in memory, a store to memory
 abbrev pub accessesOf : (memA memB stored : Bool) → ℕ
 accessesOf memA memB stored = 1 + asNumber memA + asNumber memB + asNumber (stored && memB)
+
+-- ---- endings
+
+-- a run goes on with the next instruction where it has not stopped before one
+abbrev pub goesOn : Ending → Bool
+goesOn Finished = true
+goesOn Outside = false
+goesOn NoInstruction = false
 
 -- ---- one instruction, from a memory and a machine
 
@@ -70,9 +78,17 @@ module _ (memory : List ℕ) (m : Machine) where
   abbrev pub presentB : Bool
   presentB = operandPresent opB regsB memory
 
-  -- no address that it reads is missing: otherwise the run stops before it, "outside"
-  abbrev pub inside : Bool
-  inside = present memory pc && presentA && presentB
+  -- CR 5, why the next instruction does not run: its address is missing, "outside"; its word is none, "no instruction"; an address of its A
+  -- or B is missing, "outside". Where it runs, `Finished`.
+  abbrev pub nextEnding : Ending
+  nextEnding =
+      cond (present memory pc)
+      (cond (isInstruction instruction) (cond (presentA && presentB) Finished Outside) NoInstruction)
+      Outside
+
+  -- whether it runs
+  abbrev pub nextRuns : Bool
+  nextRuns = goesOn nextEnding
 
   -- (iv) compute, set the permitted flags, store into B
   abbrev pub aluOut : AluOut
@@ -143,12 +159,12 @@ stop e r =
       ending = e;
     }
 
+-- a run that has stopped stays as it is
 unfoldable pub advance : List ℕ → Run → Run
 advance waits r =
-    elim (r .ending) [
-      | Finished ↦ cond (inside (r .memory) (r .machine)) (execute waits r) (stop Outside r)
-      | Outside ↦ r
-    ]
+    let memory = r .memory in
+    let m = r .machine in
+    cond (goesOn (r .ending)) (cond (nextRuns memory m) (execute waits r) (stop (nextEnding memory m) r)) r
 
 unfoldable pub interpret : List ℕ → ℕ → Run → Run
 interpret waits zero r = r

@@ -67,13 +67,13 @@ memoryFits memory = demand (ltb 0 (length memory)) NoWords then demand (leb (len
 abbrev pub waitsFit : List ℕ → Verdict
 waitsFit waits = demand (leb (length waits) mostWaits) LongWaitList
 
--- 4: a row above 11, a position that does not fit the list (CR 3), an access begun outside rows 1, 4, 6, 9 or with no clocks left, clocks
--- left with none begun
+-- 4: a row above 12 (CR 5), a position that does not fit the list (CR 3), an access begun outside rows 1, 4, 6, 9 or with no clocks left,
+-- clocks left with none begun
 abbrev pub accessFormed : GateState → Bool
 accessFormed s = cond (s .begun) (isAccess (s .row) && ltb 0 (s .left)) (eqb (s .left) 0)
 
 abbrev pub stateFits : (waits : List ℕ) → GateState → Verdict
-stateFits waits s = demand (leb (s .row) 11 && positionFits waits (s .position) && accessFormed s) BadGateState
+stateFits waits s = demand (leb (s .row) 12 && positionFits waits (s .position) && accessFormed s) BadGateState
 
 -- 5 and 6, of a file run of n instructions
 abbrev pub journalFits : List ℕ → ℕ → Verdict

@@ -1,7 +1,8 @@
--- Words of 32 bits as natural numbers: steps that go round at 2^32, bit fields, a list as registers or memory, and words laid over the
--- front of a lent list. Document 01, "Machine and instruction word", and of "Image" and "File run and journal" what does not change.
+-- Words of 32 bits as natural numbers: steps that go round at 2^32, bit fields, which words are instructions, a list as registers or
+-- memory, and words laid over the front of a lent list. Document 01, "Machine and instruction word", with CR 5, and of "Image" and "File run
+-- and journal" what does not change.
 use Prim.Native.Nat.{ℕ, _+_, _-_, _/_, _%_, _^_}
-use mathlib.Core.Bool.{Bool}
+use mathlib.Core.Bool.{Bool, not, _&&_}
 use mathlib.Core.List.{List, _++_}
 use lib.Dec.{eqb, ltb}
 use lib.ListN.{length, getD, set, drop}
@@ -23,6 +24,10 @@ field w low size = w / 2 ^ low % 2 ^ size
 
 unfoldable pub bit : ℕ → ℕ → Bool
 bit w i = eqb (field w i 1) 1
+
+-- CR 5: an instruction takes none of bit 14 and bits 20 to 31; a word with one of these set is none
+unfoldable pub isInstruction : ℕ → Bool
+isInstruction w = not (bit w 14) && eqb (field w 20 12) 0
 
 -- word i of registers or of a memory
 abbrev pub wordAt : List ℕ → ℕ → ℕ

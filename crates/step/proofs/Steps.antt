@@ -1,11 +1,13 @@
 -- One instruction: its operands taken or the registers put back, its store, and the whole.
 use Prim.Native.Nat.{ℕ, _≤_, _<_}
 use mathlib.Core.Path.{_≡_, refl, sym, ap, _∙_}
-use mathlib.Core.Bool.{Bool, true, false, _&&_}
+use mathlib.Core.Bool.{Bool, true, false, cond, _&&_}
 use mathlib.Core.List.{List}
 use lib.ListN.{length, set}
 use Rattle.model.specs.declared.Operand.{Operand}
-use Rattle.model.specs.Words.{inc, wordAt, storeWord}
+use Rattle.model.specs.declared.Ending.{Ending}
+use Rattle.model.specs.declared.Ending.the-variants.{Finished, Outside, NoInstruction}
+use Rattle.model.specs.Words.{inc, isInstruction, wordAt, storeWord}
 use Rattle.model.specs.Operands.{operandA, operandB, inMemory, registerWord, stepped, stepDown, operandPresent, setRegister}
 use Rattle.model.specs.Interpreter as I
 use Rattle.model.proofs.Cases.{cond-true, cond-false, tells}
@@ -67,93 +69,117 @@ module _ {f : Fetched} {x pairs : ℕ} {regs memory journal : List ℕ} {t : Boo
 -- ---- the fetch
 
 module _ (regs memory : List ℕ) where
-  none : {regs′ : List ℕ} {f : Fetched} → I.inside memory (bare regs) ≡ false → f ≡ nothing → regs′ ≡ regs → Fetches regs memory regs′ f
-  none h e p =
+  abbrev next : Ending
+  next = I.nextEnding memory (bare regs)
+
+  none : {e : Ending} {regs′ : List ℕ} {f : Fetched} → next ≡ e → I.goesOn e ≡ false → f ≡ nothing e → regs′ ≡ regs → Fetches regs memory regs′ f
+  none h g e p =
+      let stops = ap I.goesOn h ∙ g in
       record {
-        result = e ∙ cond-false (fetchedOf regs memory) nothing h;
-        registers = p ∙ cond-false (I.regsB memory (bare regs)) regs h;
+        result = (e ∙ ap nothing (sym h)) ∙ cond-false (fetchedOf regs memory) (nothing next) stops;
+        registers = p ∙ cond-false (I.regsB memory (bare regs)) regs stops;
       }
 
-  all : {regs′ : List ℕ} {f : Fetched} → I.inside memory (bare regs) ≡ true → f ≡ fetchedOf regs memory → regs′ ≡ I.regsB memory (bare regs)
+  all : {regs′ : List ℕ} {f : Fetched} → next ≡ Finished → f ≡ fetchedOf regs memory → regs′ ≡ I.regsB memory (bare regs)
       → Fetches regs memory regs′ f
   all h e p =
+      let runs = ap I.goesOn h in
       record {
-        result = e ∙ cond-true (fetchedOf regs memory) nothing h;
-        registers = p ∙ cond-true (I.regsB memory (bare regs)) regs h;
+        result = e ∙ cond-true (fetchedOf regs memory) (nothing next) runs;
+        registers = p ∙ cond-true (I.regsB memory (bare regs)) regs runs;
       }
 
-  pub pc-gone : {i : ℕ} → i ≡ wordAt regs 0 → length memory ≤ i → {f : Fetched} → f ≡ nothing → Fetches regs memory regs f
+  -- why it does not run, by what is there
+  abbrev byTests : (fetch word : Bool) → (operands : Bool) → Ending
+  byTests fetch word operands = cond fetch (cond word (cond operands Finished Outside) NoInstruction) Outside
+
+  abbrev operandsThere : Bool
+  operandsThere = I.presentA memory (bare regs) && I.presentB memory (bare regs)
+
+  pub pc-gone : {i : ℕ} → i ≡ wordAt regs 0 → length memory ≤ i → {f : Fetched} → f ≡ nothing Outside → Fetches regs memory regs f
   pc-gone at h e =
-      let gone = fetch-gone regs memory at h in
-      none (ap (λ (t : Bool). t && I.presentA memory (bare regs) && I.presentB memory (bare regs)) gone) e refl
+      none (ap (λ (t : Bool). byTests t (isInstruction (I.instruction memory (bare regs))) operandsThere) (fetch-gone regs memory at h)) refl e refl
 
-  -- the word is there, and A is taken
-  module _ {i : ℕ} (at : i ≡ wordAt regs 0) (here : i < length memory) {oa : Operand} (is-a : oa ≡ operandA (wordAt memory i))
-      {r0 r1 : List ℕ} {t : Taken} (pc : r0 ≡ stepped inc 0 regs) (h : Takes oa r0 memory r1 t) where
-    op-a : oa ≡ I.opA memory (bare regs)
-    op-a = is-a ∙ ap (λ (i : ℕ). operandA (wordAt memory i)) at
+  -- the word is there
+  module _ {i : ℕ} (at : i ≡ wordAt regs 0) (here : i < length memory) where
+    with-word : {v w : Bool} → v ≡ isInstruction (wordAt memory i) → v ≡ w → next ≡ byTests true w operandsThere
+    with-word is q =
+        ap (λ (t : Bool). byTests t (isInstruction (I.instruction memory (bare regs))) operandsThere) (fetch-here regs memory at here)
+        ∙ ap (λ (t : Bool). byTests true t operandsThere) (sym (is ∙ ap (λ (i : ℕ). isInstruction (wordAt memory i)) at) ∙ q)
 
-    a : t ≡ takenOf (I.opA memory (bare regs)) (I.regsA memory (bare regs)) memory
-    a = took memory op-a pc h
+    pub word-none : {v : Bool} → v ≡ isInstruction (wordAt memory i) → v ≡ false → {f : Fetched} → f ≡ nothing NoInstruction → Fetches regs memory regs f
+    word-none is q e = none (with-word is q) refl e refl
 
-    with-a : {v : Bool} → t .present ≡ v → I.inside memory (bare regs) ≡ (v && I.presentB memory (bare regs))
-    with-a q =
-        ap (λ (t : Bool). t && I.presentA memory (bare regs) && I.presentB memory (bare regs)) (fetch-here regs memory at here)
-        ∙ ap (λ (t : Bool). t && I.presentB memory (bare regs)) (sym (ap (λ (t : Taken). t .present) a) ∙ q)
+    -- it is an instruction, and A is taken
+    module _ {v : Bool} (is : v ≡ isInstruction (wordAt memory i)) (runs : v ≡ true) {oa : Operand} (is-a : oa ≡ operandA (wordAt memory i))
+        {r0 r1 : List ℕ} {t : Taken} (pc : r0 ≡ stepped inc 0 regs) (h : Takes oa r0 memory r1 t) where
+      op-a : oa ≡ I.opA memory (bare regs)
+      op-a = is-a ∙ ap (λ (i : ℕ). operandA (wordAt memory i)) at
 
-    pub a-gone : t .present ≡ false → {f : Fetched} → f ≡ nothing → Fetches regs memory (set r1 0 (wordAt regs 0)) f
-    a-gone q e = none (with-a q) e (restored-pc regs (took-back h q ∙ pc))
+      a : t ≡ takenOf (I.opA memory (bare regs)) (I.regsA memory (bare regs)) memory
+      a = took memory op-a pc h
 
-    -- and B
-    module _ (q : t .present ≡ true) {ob : Operand} (is-b : ob ≡ operandB (wordAt memory i))
-        {r2 : List ℕ} {u : Taken} (g : Takes ob r1 memory r2 u) where
-      op-b : ob ≡ I.opB memory (bare regs)
-      op-b = is-b ∙ ap (λ (i : ℕ). operandB (wordAt memory i)) at
+      with-a : {w : Bool} → t .present ≡ w → next ≡ byTests true true (w && I.presentB memory (bare regs))
+      with-a q =
+          with-word is runs
+          ∙ ap (λ (t : Bool). byTests true true (t && I.presentB memory (bare regs))) (sym (ap (λ (t : Taken). t .present) a) ∙ q)
 
-      regs-a : r1 ≡ I.regsA memory (bare regs)
-      regs-a = down-eq op-a pc (took-down h q)
+      pub a-gone : t .present ≡ false → {f : Fetched} → f ≡ nothing Outside → Fetches regs memory (set r1 0 (wordAt regs 0)) f
+      a-gone q e = none (with-a q) refl e (restored-pc regs (took-back h q ∙ pc))
 
-      b : u ≡ takenOf (I.opB memory (bare regs)) (I.regsB memory (bare regs)) memory
-      b = took memory op-b regs-a g
+      -- and B
+      module _ (q : t .present ≡ true) {ob : Operand} (is-b : ob ≡ operandB (wordAt memory i))
+          {r2 : List ℕ} {u : Taken} (g : Takes ob r1 memory r2 u) where
+        op-b : ob ≡ I.opB memory (bare regs)
+        op-b = is-b ∙ ap (λ (i : ℕ). operandB (wordAt memory i)) at
 
-      with-b : {v : Bool} → u .present ≡ v → I.inside memory (bare regs) ≡ v
-      with-b e = with-a q ∙ sym (ap (λ (t : Taken). t .present) b) ∙ e
+        regs-a : r1 ≡ I.regsA memory (bare regs)
+        regs-a = down-eq op-a pc (took-down h q)
 
-      pub b-gone : u .present ≡ false → {x : ℕ} → x ≡ registerWord oa r0 → {r3 : List ℕ} → r3 ≡ setRegister oa x r2
-          → {f : Fetched} → f ≡ nothing → Fetches regs memory (set r3 0 (wordAt regs 0)) f
-      b-gone e old back n = none (with-b e) n (restored-pc regs (restored oa old (took-back g e ∙ took-down h q) back ∙ pc))
+        b : u ≡ takenOf (I.opB memory (bare regs)) (I.regsB memory (bare regs)) memory
+        b = took memory op-b regs-a g
 
-      pub b-there : u .present ≡ true
-          → Fetches regs memory r2
-          (record { inside = true; word = wordAt memory i; oa = oa; ob = ob; a = t .value; b = u .value; address = u .word })
-      b-there e = all (with-b e) (rw (at, a, b, op-a, op-b)) (down-eq op-b regs-a (took-down g e))
+        with-b : {w : Bool} → u .present ≡ w → next ≡ byTests true true w
+        with-b e = with-a q ∙ ap (byTests true true) (sym (ap (λ (t : Taken). t .present) b) ∙ e)
+
+        pub b-gone : u .present ≡ false → {x : ℕ} → x ≡ registerWord oa r0 → {r3 : List ℕ} → r3 ≡ setRegister oa x r2
+            → {f : Fetched} → f ≡ nothing Outside → Fetches regs memory (set r3 0 (wordAt regs 0)) f
+        b-gone e old back n = none (with-b e) refl n (restored-pc regs (restored oa old (took-back g e ∙ took-down h q) back ∙ pc))
+
+        pub b-there : u .present ≡ true
+            → Fetches regs memory r2
+            (record { ending = Finished; word = wordAt memory i; oa = oa; ob = ob; a = t .value; b = u .value; address = u .word })
+        b-there e = all (with-b e) (rw (at, a, b, op-a, op-b)) (down-eq op-b regs-a (took-down g e))
 
 -- ---- the whole instruction
 
 module _ {regs memory r1 : List ℕ} {f : Fetched} (h : Fetches regs memory r1 f) where
-  -- the fetch says whether the instruction runs
-  is-inside : {v : Bool} → f .inside ≡ v → I.inside memory (bare regs) ≡ v
-  is-inside e = sym (tells (λ (f : Fetched). f .inside) (I.inside memory (bare regs)) refl refl (h .result)) ∙ e
+  -- the fetch says whether the instruction runs, and why not
+  runs-on : {v : Bool} → I.goesOn (f .ending) ≡ v → I.nextRuns memory (bare regs) ≡ v
+  runs-on e = sym (tells (λ (f : Fetched). I.goesOn (f .ending)) (I.nextRuns memory (bare regs)) refl refl (h .result)) ∙ e
 
   module _ {journal : List ℕ} {pairs flags : ℕ} {s : Stepped} where
-    pub step-stops : f .inside ≡ false → s ≡ stoppedAt flags pairs → Steps regs memory journal pairs flags r1 memory journal s
-    step-stops e p =
-        let t = is-inside e in
+    pub step-stops : {v : Bool} → v ≡ I.goesOn (f .ending) → v ≡ false → s ≡ stoppedAt (f .ending) flags pairs
+        → Steps regs memory journal pairs flags r1 memory journal s
+    step-stops d e p =
+        let t = runs-on (sym d ∙ e) in
+        let why : f .ending ≡ next regs memory =
+        ap (λ (f : Fetched). f .ending) (h .result ∙ sym (cond-false (fetchedOf regs memory) (nothing (next regs memory)) t)) in
         record {
-          result = p ∙ cond-false _ (stoppedAt flags pairs) t;
+          result = (p ∙ ap (λ (e : Ending). stoppedAt e flags pairs) why) ∙ cond-false _ (stoppedAt (next regs memory) flags pairs) t;
           registers = h .registers ∙ sym (cond-false (I.regsB memory (bare regs)) regs t) ∙ cond-false _ regs t;
           words = cond-false _ memory t;
           places = cond-false _ journal t;
         }
 
-    pub stepped-all : {r2 memory′ journal′ : List ℕ} → f .inside ≡ true → Finishes r1 memory journal pairs flags f r2 memory′ journal′ s
-        → Steps regs memory journal pairs flags r2 memory′ journal′ s
-    stepped-all e g =
-        let t = is-inside e in
-        let p : f ≡ fetchedOf regs memory = h .result ∙ sym (cond-true (fetchedOf regs memory) nothing t) in
+    pub stepped-all : {v : Bool} → v ≡ I.goesOn (f .ending) → v ≡ true → {r2 memory′ journal′ : List ℕ}
+        → Finishes r1 memory journal pairs flags f r2 memory′ journal′ s → Steps regs memory journal pairs flags r2 memory′ journal′ s
+    stepped-all d e g =
+        let t = runs-on (sym d ∙ e) in
+        let p : f ≡ fetchedOf regs memory = h .result ∙ sym (cond-true (fetchedOf regs memory) (nothing (next regs memory)) t) in
         let q : r1 ≡ I.regsB memory (bare regs) = h .registers ∙ sym (cond-true (I.regsB memory (bare regs)) regs t) in
         record {
-          result = (g .result ∙ rw p) ∙ cond-true _ (stoppedAt flags pairs) t;
+          result = (g .result ∙ rw p) ∙ cond-true _ (stoppedAt (next regs memory) flags pairs) t;
           registers = (g .registers ∙ rw (p, q)) ∙ cond-true _ regs t;
           words = (g .words ∙ rw p) ∙ cond-true _ memory t;
           places = (g .places ∙ rw p) ∙ cond-true _ journal t;

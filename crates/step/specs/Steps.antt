@@ -1,18 +1,20 @@
 -- One instruction as the code does it in parts, and as a whole: what each part leaves, from the definitions of model. Document 01, "Machine
--- and instruction word", the order (i) to (vi).
+-- and instruction word", the order (i) to (vi); CR 5.
 -- Flags go in and out packed; a store to memory is noted in a journal (document 01, "File run and journal").
 use Prim.Native.Nat.{ℕ}
 use mathlib.Core.Path.{_≡_}
-use mathlib.Core.Bool.{Bool, true, false, cond, _&&_}
+use mathlib.Core.Bool.{Bool, false, cond, _&&_}
 use mathlib.Core.List.{List}
 use Rattle.arithmetic.specs.declared.AluOut.{AluOut}
 use Rattle.model.specs.declared.Machine.{Machine}
 use Rattle.model.specs.declared.Operand.{Operand}
 use Rattle.model.specs.declared.Operand.the-variants.{Direct}
+use Rattle.model.specs.declared.Ending.{Ending}
+use Rattle.model.specs.declared.Ending.the-variants.{Finished}
 use Rattle.model.specs.Words.{inc, storeWord}
 use Rattle.model.specs.Operands.{inMemory, stepDown, stepUp, registerWord, operandPresent, operandValue, storeInRegister}
 use Rattle.model.specs.Alu.{alu, flagsAfter, stores}
-use Rattle.model.specs.Interpreter.{machineWith, instruction, opA, opB, regsB, valueA, valueB, addressB, inside, isStored, nextMemory, nextMachine}
+use Rattle.model.specs.Interpreter.{machineWith, instruction, opA, opB, regsB, valueA, valueB, addressB, nextEnding, nextRuns, isStored, nextMemory, nextMachine}
 use Rattle.model.specs.Journal.{noted}
 use Rattle.model.specs.Packed.{noFlags, packedOf, flagsOf, packedMachine}
 use Rattle.step.specs.declared.take.Taken.{Taken}
@@ -37,14 +39,15 @@ pub record Takes (o : Operand) (regs memory regs′ : List ℕ) (t : Taken) : Ty
 abbrev pub bare : List ℕ → Machine
 bare regs = machineWith regs noFlags
 
-abbrev pub nothing : Fetched
-nothing = record { inside = false; word = 0; oa = Direct 0; ob = Direct 0; a = 0; b = 0; address = 0 }
+-- nothing is taken of an instruction that does not run
+abbrev pub nothing : Ending → Fetched
+nothing e = record { ending = e; word = 0; oa = Direct 0; ob = Direct 0; a = 0; b = 0; address = 0 }
 
 abbrev pub fetchedOf : List ℕ → List ℕ → Fetched
 fetchedOf regs memory =
     let m = bare regs in
     record {
-      inside = true;
+      ending = Finished;
       word = instruction memory m;
       oa = opA memory m;
       ob = opB memory m;
@@ -54,8 +57,8 @@ fetchedOf regs memory =
     }
 
 pub record Fetches (regs memory regs′ : List ℕ) (f : Fetched) : Type 0 where
-  pub result : f ≡ cond (inside memory (bare regs)) (fetchedOf regs memory) nothing
-  pub registers : regs′ ≡ cond (inside memory (bare regs)) (regsB memory (bare regs)) regs
+  pub result : f ≡ cond (nextRuns memory (bare regs)) (fetchedOf regs memory) (nothing (nextEnding memory (bare regs)))
+  pub registers : regs′ ≡ cond (nextRuns memory (bare regs)) (regsB memory (bare regs)) regs
 
 -- ---- (iv) to (vi)
 
@@ -92,7 +95,7 @@ storedOf flags f = stores (f .word) (flagsOf flags)
 abbrev pub finishedOf : ℕ → ℕ → Fetched → Stepped
 finishedOf pairs flags f =
     record {
-      inside = true;
+      ending = Finished;
       flags = packedOf (flagsAfter (f .word) (flagsOf flags) (computedOf flags f));
       oa = f .oa;
       ob = f .ob;
@@ -112,13 +115,13 @@ pub record Finishes (regs memory journal : List ℕ) (pairs flags : ℕ) (f : Fe
 abbrev pub journaled : List ℕ → Machine → List ℕ → ℕ → List ℕ
 journaled memory m journal pairs = putPlaces (isStored memory m) (fetchedOf (m .regs) memory) pairs journal
 
-abbrev pub stoppedAt : ℕ → ℕ → Stepped
-stoppedAt flags pairs = record { inside = false; flags = flags; oa = Direct 0; ob = Direct 0; stored = false; pairs = pairs }
+abbrev pub stoppedAt : Ending → ℕ → ℕ → Stepped
+stoppedAt e flags pairs = record { ending = e; flags = flags; oa = Direct 0; ob = Direct 0; stored = false; pairs = pairs }
 
 abbrev pub steppedOf : List ℕ → Machine → ℕ → Stepped
 steppedOf memory m pairs =
     record {
-      inside = true;
+      ending = Finished;
       flags = packedOf (nextMachine memory m .flags);
       oa = opA memory m;
       ob = opB memory m;
@@ -126,8 +129,9 @@ steppedOf memory m pairs =
       pairs = putCount (isStored memory m) (fetchedOf (m .regs) memory) pairs;
     }
 
+-- what it leaves of machine, memory and journal; where it does not run they stay
 pub record Steps (regs memory journal : List ℕ) (pairs flags : ℕ) (regs′ memory′ journal′ : List ℕ) (s : Stepped) : Type 0 where
-  pub result : s ≡ cond (inside memory (packedMachine regs flags)) (steppedOf memory (packedMachine regs flags) pairs) (stoppedAt flags pairs)
-  pub registers : regs′ ≡ cond (inside memory (packedMachine regs flags)) (nextMachine memory (packedMachine regs flags) .regs) regs
-  pub words : memory′ ≡ cond (inside memory (packedMachine regs flags)) (nextMemory memory (packedMachine regs flags)) memory
-  pub places : journal′ ≡ cond (inside memory (packedMachine regs flags)) (journaled memory (packedMachine regs flags) journal pairs) journal
+  pub result : s ≡ cond (nextRuns memory (packedMachine regs flags)) (steppedOf memory (packedMachine regs flags) pairs) (stoppedAt (nextEnding memory (packedMachine regs flags)) flags pairs)
+  pub registers : regs′ ≡ cond (nextRuns memory (packedMachine regs flags)) (nextMachine memory (packedMachine regs flags) .regs) regs
+  pub words : memory′ ≡ cond (nextRuns memory (packedMachine regs flags)) (nextMemory memory (packedMachine regs flags)) memory
+  pub places : journal′ ≡ cond (nextRuns memory (packedMachine regs flags)) (journaled memory (packedMachine regs flags) journal pairs) journal

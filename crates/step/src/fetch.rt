@@ -1,6 +1,8 @@
 // The instruction and its operands, taken: (i) to (iii).
 use super::take::take;
+use model::Ending;
 use model::Operand;
+use operands::is_instruction;
 use operands::operand_a;
 use operands::operand_b;
 use registers::register_word;
@@ -9,9 +11,9 @@ use registers::step_pc;
 ghost use mathlib.Core.Path.{_≡_};
 ghost use Rattle.step.specs.Steps.{nothing, Fetches};
 
-// The word, its operands A and B with their values, and the address of a B in memory.
+// Whether the instruction runs, or why not; its word, its operands A and B with their values, and the address of a B in memory.
 pub struct Fetched {
-    pub inside: bool,
+    pub ending: Ending,
     pub word: u32,
     pub oa: Operand,
     pub ob: Operand,
@@ -27,11 +29,12 @@ fn index(address: u32) -> usize
     address as usize
 }
 
-fn absent() -> Fetched
-    ensures { λ r. ⌜ r ≡ nothing ⌝ }
+// Nothing is taken of an instruction that does not run.
+fn nothing(ending: Ending) -> Fetched
+    ensures { λ r. ⌜ r ≡ nothing ending ⌝ }
 {
     Fetched {
-        inside: false,
+        ending,
         word: 0,
         oa: Operand::Direct(0),
         ob: Operand::Direct(0),
@@ -48,26 +51,29 @@ pub fn fetch(regs: &mut [u32; 8], memory: &[u32]) -> Fetched
     let pc = regs[0];
     let at = index(pc);
     if memory.len() <= at {
-        return absent();
+        return nothing(Ending::Outside);
     }
     let word = memory[at];
+    if !is_instruction(word) {
+        return nothing(Ending::NoInstruction);
+    }
     step_pc(regs);
     let oa = operand_a(word);
     let old_a = register_word(oa, &*regs);
     let a = take(oa, regs, memory);
     if !a.present {
         regs[0] = pc;
-        return absent();
+        return nothing(Ending::Outside);
     }
     let ob = operand_b(word);
     let b = take(ob, regs, memory);
     if !b.present {
         set_register(oa, old_a, regs);
         regs[0] = pc;
-        return absent();
+        return nothing(Ending::Outside);
     }
     Fetched {
-        inside: true,
+        ending: Ending::Finished,
         word,
         oa,
         ob,

@@ -5,6 +5,7 @@ use super::put::put;
 use super::unit::unit_of;
 use effects::flags_after_packed;
 use effects::stores;
+use model::Ending;
 use registers::step_up;
 ghost use Rattle.step.specs.Steps.{Finishes};
 
@@ -29,7 +30,7 @@ pub fn finish(
     step_up(oa, regs);
     step_up(ob, regs);
     Stepped {
-        inside: true,
+        ending: Ending::Finished,
         flags: after,
         oa,
         ob,

@@ -7,15 +7,17 @@ mod unit;
 
 use fetch::fetch;
 use finish::finish;
+use model::Ending;
 use model::Operand;
 ghost use mathlib.Core.Path.{_≡_};
+ghost use Rattle.model.specs.Interpreter.{goesOn};
 ghost use Rattle.step.specs.Steps.{stoppedAt, Steps};
 
 // What one instruction leaves: the flags, packed; its operands as decoded and whether its result was stored, which decide its clocks and
 // accesses; the pairs in the journal.
-// Where an address is absent, `inside` is false and nothing has changed.
+// Where it did not run, `ending` says why, and nothing has changed.
 pub struct Stepped {
-    pub inside: bool,
+    pub ending: Ending,
     pub flags: u32,
     pub oa: Operand,
     pub ob: Operand,
@@ -23,11 +25,22 @@ pub struct Stepped {
     pub pairs: u32,
 }
 
-fn outside(flags: u32, pairs: u32) -> Stepped
-    ensures { λ r. ⌜ r ≡ stoppedAt flags pairs ⌝ }
+// Whether a run that ended so goes on with the next instruction.
+pub fn goes_on(ending: Ending) -> bool
+    ensures { λ r. ⌜ r ≡ goesOn ending ⌝ }
+{
+    match ending {
+        Ending::Finished => true,
+        Ending::Outside => false,
+        Ending::NoInstruction => false,
+    }
+}
+
+fn stopped(ending: Ending, flags: u32, pairs: u32) -> Stepped
+    ensures { λ r. ⌜ r ≡ stoppedAt ending flags pairs ⌝ }
 {
     Stepped {
-        inside: false,
+        ending,
         flags,
         oa: Operand::Direct(0),
         ob: Operand::Direct(0),
@@ -47,8 +60,9 @@ pub fn step(
     ensures { λ r. ⌜ Steps (now (regs .entry)) (now (memory .entry)) (now (journal .entry)) pairs flags (now (regs .exit)) (now (memory .exit)) (now (journal .exit)) r ⌝ }
 {
     let f = fetch(regs, &*memory);
-    if f.inside {
+    let ending = f.ending;
+    if goes_on(ending) {
         return finish(regs, memory, journal, pairs, flags, f);
     }
-    outside(flags, pairs)
+    stopped(ending, flags, pairs)
 }

@@ -2,6 +2,7 @@
 
 use super::gate_unit::gate_unit;
 use super::operand::{Operand, DIRECT};
+use super::HALTING_BITS;
 use fm8502::library::{DONE, MACHINE_SIZE};
 
 #[derive(Clone, Copy)]
@@ -20,10 +21,12 @@ struct State {
     left: u32,
 }
 
+/// Where the machine stays once it has read a word that is no instruction.
+const HALTED_ROW: u32 = 12;
 /// The row after each, where the instruction does not decide.
-const NEXT: [u32; 12] = [1, 2, 3, 4, 5, 6, 7, 8, 10, 10, 11, 0];
-const IS_ACCESS: [bool; 12] = [
-    false, true, false, false, true, false, true, false, false, true, false, false,
+const NEXT: [u32; 13] = [1, 2, 3, 4, 5, 6, 7, 8, 10, 10, 11, 0, HALTED_ROW];
+const IS_ACCESS: [bool; 13] = [
+    false, true, false, false, true, false, true, false, false, true, false, false, false,
 ];
 
 #[inline(never)]
@@ -95,7 +98,12 @@ impl State {
         let b = Operand::of(self.instruction >> 5);
         match row {
             0 => self.address = self.registers[0],
-            1 => self.instruction = memory[self.address as usize],
+            1 => {
+                self.instruction = memory[self.address as usize];
+                if self.instruction & HALTING_BITS != 0 {
+                    next = HALTED_ROW;
+                }
+            }
             2 => self.registers[0] = self.registers[0].wrapping_add(1),
             3 => next = self.take_a(a),
             4 => self.a = memory[self.address as usize],
@@ -105,7 +113,8 @@ impl State {
             8 => self.registers[b.register] = self.result,
             9 => memory[self.address as usize] = self.result,
             10 => a.step_up(&mut self.registers),
-            _ => b.step_up(&mut self.registers),
+            11 => b.step_up(&mut self.registers),
+            _ => {}
         }
         self.row = next;
         row == 11

@@ -2,9 +2,10 @@
 //! no code for them. The registers stand apart from the rest of the machine, as
 //! they are indexed and would keep all of it from the processor's registers.
 
-use super::code;
 use super::operand::{Operand, DIRECT};
 use super::word_unit::word_unit;
+use super::HALTING_BITS;
+use fm8502::library::{DONE, HALTED, STOPPED};
 
 struct Engine<'a, const WAITS: bool, const JOURNAL: bool> {
     carry: bool,
@@ -19,11 +20,11 @@ struct Engine<'a, const WAITS: bool, const JOURNAL: bool> {
     filled: usize,
 }
 
-/// Instructions that ran, their clocks, and whether all of them ran.
+/// Instructions that ran, their clocks, and the run's code.
 struct Ran {
     count: u32,
     clocks: u64,
-    finished: bool,
+    code: u32,
 }
 
 pub fn run(
@@ -39,7 +40,7 @@ pub fn run(
         plain_run::<true>(memory, waits, machine, count)
     };
     result.copy_from_slice(&[u64::from(ran.count), ran.clocks]);
-    code(ran.finished)
+    ran.code
 }
 
 #[inline(never)]
@@ -68,15 +69,15 @@ pub fn file_run(
     let mut engine = Engine::<false, true>::new(machine, memory, &[], journal);
     let ran = engine.run(&mut registers, count);
     let filled = engine.filled;
-    if ran.finished {
-        engine.give(&registers, machine);
-    } else {
-        for pair in engine.journal[..filled].rchunks_exact(2) {
-            engine.memory[pair[0] as usize] = pair[1];
-        }
-    }
     result.copy_from_slice(&[u64::from(ran.count), filled as u64 / 2]);
-    code(ran.finished)
+    if ran.code == DONE {
+        engine.give(&registers, machine);
+        return DONE;
+    }
+    for pair in engine.journal[..filled].rchunks_exact(2) {
+        engine.memory[pair[0] as usize] = pair[1];
+    }
+    STOPPED
 }
 
 fn registers_of(machine: &[u32]) -> [u32; 8] {
@@ -118,24 +119,31 @@ impl<'a, const WAITS: bool, const JOURNAL: bool> Engine<'a, WAITS, JOURNAL> {
         let mut ran = Ran {
             count: 0,
             clocks: 0,
-            finished: true,
+            code: DONE,
         };
         while ran.count < count {
-            let Some(clocks) = self.step(registers) else {
-                ran.finished = false;
-                break;
-            };
-            ran.clocks += clocks;
+            match self.step(registers) {
+                Ok(clocks) => ran.clocks += clocks,
+                Err(code) => {
+                    ran.code = code;
+                    break;
+                }
+            }
             ran.count += 1;
         }
         ran
     }
 
-    /// One instruction; returns its clocks, or nothing if a word is missing.
+    /// One instruction; returns its clocks, or the code of a run that stops before it.
     #[inline(always)]
-    fn step(&mut self, registers: &mut [u32; 8]) -> Option<u64> {
+    fn step(&mut self, registers: &mut [u32; 8]) -> Result<u64, u32> {
         let pc = registers[0];
-        let word = *self.memory.get(pc as usize)?;
+        let Some(&word) = self.memory.get(pc as usize) else {
+            return Err(STOPPED);
+        };
+        if word & HALTING_BITS != 0 {
+            return Err(HALTED);
+        }
         let operand_a = Operand::of(word);
         let operand_b = Operand::of(word >> 5);
         registers[0] = pc.wrapping_add(1);
@@ -144,13 +152,13 @@ impl<'a, const WAITS: bool, const JOURNAL: bool> Engine<'a, WAITS, JOURNAL> {
         let Some(a) = self.take(operand_a, registers, &mut address, &mut clocks) else {
             operand_a.take_back(registers);
             registers[0] = registers[0].wrapping_sub(1);
-            return None;
+            return Err(STOPPED);
         };
         let Some(b) = self.take(operand_b, registers, &mut address, &mut clocks) else {
             operand_b.take_back(registers);
             operand_a.take_back(registers);
             registers[0] = registers[0].wrapping_sub(1);
-            return None;
+            return Err(STOPPED);
         };
         let (result, stored) = self.compute(word, a, b);
         if stored {
@@ -163,7 +171,7 @@ impl<'a, const WAITS: bool, const JOURNAL: bool> Engine<'a, WAITS, JOURNAL> {
         }
         operand_a.step_up(registers);
         operand_b.step_up(registers);
-        Some(clocks)
+        Ok(clocks)
     }
 
     /// The wait of the next access.

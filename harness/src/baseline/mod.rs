@@ -65,10 +65,5 @@ pub const CONTENDERS: [Contender; 4] = [
     },
 ];
 
-fn code(finished: bool) -> u32 {
-    if finished {
-        library::DONE
-    } else {
-        library::STOPPED
-    }
-}
+/// Bit 14 and bits 20-31: a word with one of them is no instruction.
+const HALTING_BITS: u32 = 0xFFF0_4000;

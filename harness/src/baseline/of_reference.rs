@@ -1,13 +1,9 @@
 //! The reference emulator behind the library's calls on words.
 
-use super::code;
+use crate::codes;
 use crate::words::{machine_of, machine_words, state_of, state_words};
 use fm8502::library::DONE;
-use reference::{image, Answer, FileAnswer, Refusal};
-
-fn number(refusal: Refusal) -> u32 {
-    u32::from(refusal.number())
-}
+use reference::image;
 
 pub fn run(
     memory: &mut [u32],
@@ -19,10 +15,7 @@ pub fn run(
     let ran = reference::run(memory, waits, machine_of(words), count);
     words.copy_from_slice(&machine_words(&ran.machine));
     result.copy_from_slice(&[u64::from(ran.ran), ran.clocks]);
-    match ran.answer {
-        Answer::Refused(refusal) => number(refusal),
-        answer => code(answer == Answer::Finished),
-    }
+    codes::of_run(ran.answer)
 }
 
 pub fn file_run(
@@ -35,10 +28,7 @@ pub fn file_run(
     let ran = reference::file_run(memory, journal, machine_of(words), count);
     words.copy_from_slice(&machine_words(&ran.machine));
     result.copy_from_slice(&[u64::from(ran.ran), u64::from(ran.pairs)]);
-    match ran.answer {
-        FileAnswer::Refused(refusal) => number(refusal),
-        answer => code(answer == FileAnswer::Finished),
-    }
+    codes::of_file_run(ran.answer)
 }
 
 pub fn gate_run(
@@ -51,14 +41,14 @@ pub fn gate_run(
     let ran = reference::gate_run(memory, waits, state_of(words), clocks);
     words.copy_from_slice(&state_words(&ran.state));
     result[0] = ran.finished;
-    ran.answer.map_or_else(number, |()| DONE)
+    codes::of_call(ran.answer)
 }
 
 pub fn image_read(bytes: &[u8], memory: &mut [u32], words: &mut [u32], result: &mut [u64]) -> u32 {
     let loaded = image::read(bytes, memory);
     words.copy_from_slice(&machine_words(&loaded.machine));
     result[0] = u64::from(loaded.words);
-    loaded.answer.map_or_else(number, |()| DONE)
+    codes::of_call(loaded.answer)
 }
 
 pub fn image_write(memory: &[u32], words: &[u32], out: &mut [u8], result: &mut [u64]) -> u32 {
@@ -67,6 +57,6 @@ pub fn image_write(memory: &[u32], words: &[u32], out: &mut [u8], result: &mut [
             result[0] = size as u64;
             DONE
         }
-        Err(refusal) => number(refusal),
+        Err(refusal) => codes::refused(refusal),
     }
 }

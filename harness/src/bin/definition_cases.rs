@@ -2,11 +2,12 @@
 //! states with the reference emulator's results and refusals, for the prover to
 //! compute the definitions on.
 
-use harness::case_words::{flag_number, latch_words};
+use harness::case_words::{ending_number, flag_number, latch_words};
+use reference::generate::halting::BIT_NUMBERS;
 use reference::generate::program::{any_program, Program};
 use reference::generate::state::{gate_state, refused_gate_state};
 use reference::rng::Rng;
-use reference::{file_run, gate_run, run, Answer, GateState};
+use reference::{file_run, gate_run, run, GateState, Machine};
 use std::fmt::Write;
 
 const SEED: u64 = 8502;
@@ -16,8 +17,8 @@ const VERDICTS: usize = 100;
 
 /// What stands before the cases.
 const HEAD: &str = "-- Cases of both engines, of document 01, \"Machine and instruction word\", \"Clocks\", \"File run and journal\" and \"Why a call is turned
--- down\", and of document 02, CR 3, made by harness/definition_cases from a seed with the reference emulator's results: do not edit.
-use mathlib.Core.Bool.{true, false}
+-- down\", and of document 02, CR 3 and CR 5, made by harness/definition_cases from a seed with the reference emulator's results: do not
+-- edit.
 use mathlib.Core.List.{List, [], _∷_}
 use Rattle.definition_cases.specs.Shape.{RunCase, GateCase, VerdictCase, runCase, gateCase, verdictCase}
 ";
@@ -25,12 +26,15 @@ use Rattle.definition_cases.specs.Shape.{RunCase, GateCase, VerdictCase,
 fn main() {
     let mut rng = Rng::new(SEED);
     let mut out = String::from(HEAD);
-    let runs: Vec<String> = (0..RUNS).map(|_| run_case(&mut rng)).collect();
+    let mut runs: Vec<String> = (0..RUNS).map(|_| run_case(&small(&mut rng))).collect();
+    runs.extend(halting_programs().iter().map(run_case));
     list(&mut out, "runCases", "RunCase", &runs);
-    let gates: Vec<String> = (0..GATE_RUNS).map(|i| gate_case(&mut rng, i)).collect();
+    let mut gates: Vec<String> = (0..GATE_RUNS).map(|i| any_gate_case(&mut rng, i)).collect();
+    gates.extend(halting_programs().iter().flat_map(around_halt));
     list(&mut out, "gateCases", "GateCase", &gates);
     let mut verdicts: Vec<String> = (0..VERDICTS).map(|i| state_verdict(&mut rng, i)).collect();
     verdicts.extend(position_verdicts());
+    verdicts.extend(row_verdicts());
     list(&mut out, "verdictCases", "VerdictCase", &verdicts);
     print!("{out}");
 }
@@ -56,8 +60,27 @@ fn small(rng: &mut Rng) -> Program {
     }
 }
 
-fn run_case(rng: &mut Rng) -> String {
-    let p = small(rng);
+/// The wait of the read that halts.
+const HALT_WAIT: u16 = 2;
+
+/// For each of the thirteen bits a store to memory, and then a word that halts.
+fn halting_programs() -> Vec<Program> {
+    let program = |bit| {
+        let mut start = Machine::default();
+        start.registers[1..3].copy_from_slice(&[bit, 2]);
+        Program {
+            // move r1,(r2), and inc r1,r1 with the bit.
+            memory: vec![0x0000_0141, 0x0001_0021 | 1 << bit, 7],
+            // The store has three accesses.
+            waits: vec![1, 0, 3, HALT_WAIT],
+            start,
+            count: 3,
+        }
+    };
+    BIT_NUMBERS.map(program).to_vec()
+}
+
+fn run_case(p: &Program) -> String {
     let mut memory = p.memory.clone();
     let r = run(&mut memory, &p.waits, p.start, p.count);
     let mut journal = vec![0; 2 * p.count as usize];
@@ -76,12 +99,12 @@ fn run_case(rng: &mut Rng) -> String {
         words(&journal),
         r.ran,
         r.clocks,
-        r.answer == Answer::Outside,
+        ending_number(r.answer),
     )
 }
 
 /// Every other case starts between instructions and ends around the clock total.
-fn gate_case(rng: &mut Rng, number: usize) -> String {
+fn any_gate_case(rng: &mut Rng, number: usize) -> String {
     let p = small(rng);
     let mut state = gate_state(rng, p.memory.len(), p.waits.len());
     state.left = state.left.min(9);
@@ -91,14 +114,27 @@ fn gate_case(rng: &mut Rng, number: usize) -> String {
         let total = run(&mut p.memory.clone(), &p.waits, p.start, p.count.min(4)).clocks;
         clocks = (total + number as u64 / 2 % 3).saturating_sub(1);
     }
+    gate_case(&p, &state, clocks)
+}
+
+/// Just before the halting word's read is complete, at that clock, and some later.
+fn around_halt(p: &Program) -> Vec<String> {
+    let total = run(&mut p.memory.clone(), &p.waits, p.start, p.count).clocks;
+    let halt = total + 2 + u64::from(HALT_WAIT);
+    let state = GateState::start(p.start);
+    let case = |clocks| gate_case(p, &state, clocks);
+    [halt - 1, halt, halt + 9].map(case).to_vec()
+}
+
+fn gate_case(p: &Program, state: &GateState, clocks: u64) -> String {
     let mut memory = p.memory.clone();
-    let g = gate_run(&mut memory, &p.waits, state, clocks);
+    let g = gate_run(&mut memory, &p.waits, *state, clocks);
     format!(
         "gateCase {} {} {} {} {} {} {} {} {}",
         words(&p.memory),
         numbers(&p.waits),
         words(&state.registers),
-        latches(&state),
+        latches(state),
         clocks,
         words(&memory),
         words(&g.state.registers),
@@ -133,6 +169,23 @@ fn position_verdicts() -> Vec<String> {
                 ..GateState::default()
             };
             cases.push(verdict_case(&[0], &vec![1; entries as usize], &state));
+        }
+    }
+    cases
+}
+
+/// The last rows and the first past them, without an access and with one begun.
+fn row_verdicts() -> Vec<String> {
+    let mut cases = Vec::new();
+    for row in [11, 12, 13, 255] {
+        for (begun, left) in [(false, 0), (true, 1), (true, 0), (false, 1)] {
+            let state = GateState {
+                row,
+                begun,
+                left,
+                ..GateState::default()
+            };
+            cases.push(verdict_case(&[0], &[], &state));
         }
     }
     cases

@@ -2,7 +2,8 @@
 
 use harness::arguments::{numbers, value};
 use harness::differential::{
-    directed, gates, images, limits, long, misfits, programs, refusals, sums, vectors, Check,
+    directed, gates, halting, images, limits, long, misfits, programs, refusals, sums, vectors,
+    Check,
 };
 use reference::rng::Rng;
 use std::process::exit;
@@ -34,6 +35,7 @@ fn main() {
     println!("{states} gate states agree, seed {seed}");
     check_images(seed, images);
     check_directed(seed);
+    check_halting(seed);
     let vectors = settle(vectors::check(), "outside vectors");
     println!("{vectors} outside vectors agree");
     let sums = settle(
@@ -109,6 +111,15 @@ fn check_directed(seed: u64) {
         "{cases} directed cases agree, seed {seed}: {} instructions, {} outside, {} images refused",
         tally.programs.instructions, tally.programs.outside, tally.images.refused
     );
+}
+
+fn check_halting(seed: u64) {
+    let mut tally = programs::Tally::default();
+    let words = settle(
+        halting::check(&mut Rng::new(seed), &mut tally),
+        &format!("words that are no instruction, --seed {seed}"),
+    );
+    println!("{words} words that are no instruction agree, seed {seed}: {tally}");
 }
 
 fn check_refusals(seed: u64) {

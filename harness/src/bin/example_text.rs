@@ -11,8 +11,9 @@ fn main() -> std::io::Result<()> {
         .split_whitespace()
         .map(|entry| entry.parse().expect("a number of 16 bits"))
         .collect();
-    let stacking = fs::read(folder.join("stacking.image"))?;
-    let outside = fs::read(folder.join("outside.image"))?;
-    print!("{}", text(&stacking, &waits, &outside));
+    let image = |name| fs::read(folder.join(name));
+    let [stacking, outside, halted] =
+        ["stacking.image", "outside.image", "halted.image"].map(image);
+    print!("{}", text(&stacking?, &waits, &outside?, &halted?));
     Ok(())
 }

@@ -1,6 +1,7 @@
 //! The cases, small enough for the program's fixed buffers.
 
 use super::Case;
+use reference::generate::halting::BIT_NUMBERS;
 use reference::generate::program::{any_program, Program};
 use reference::generate::state::{gate_state, refused_gate_state};
 use reference::rng::Rng;
@@ -16,6 +17,7 @@ pub fn cases() -> Vec<Case> {
     let mut rng = Rng::new(SEED);
     let mut cases: Vec<Case> = (0..STATES).map(|i| state_case(&mut rng, i)).collect();
     cases.extend(list_ends());
+    cases.extend(halts());
     cases
 }
 
@@ -72,4 +74,20 @@ fn list_ends() -> Vec<Case> {
         }
     }
     cases
+}
+
+/// For each of the thirteen bits, an instruction and then a word that halts: the clock
+/// before its read is complete, that clock, and some later.
+fn halts() -> Vec<Case> {
+    let case = |bit: u32, clocks| Case {
+        // inc r1,r1, and the same with the bit.
+        memory: vec![0x0001_0021, 0x0001_0021 | 1 << bit],
+        waits: vec![1, 2, 5],
+        state: GateState::default(),
+        clocks,
+    };
+    // With their waits the instruction takes 10 clocks, and the word's address and read 4.
+    let ends = [13, 14, 30];
+    let cases = BIT_NUMBERS.map(|bit| ends.map(|clocks| case(bit, clocks)));
+    cases.into_iter().flatten().collect()
 }

@@ -2,22 +2,15 @@
 
 use super::lent::guard;
 use super::outcome::Outcome;
+use crate::codes;
 use crate::words::{machine_words, state_words};
-use fm8502::library::{DONE, MACHINE_SIZE, STOPPED};
-use reference::{image, Answer, FileAnswer, GateState, Machine, Refusal};
-
-fn code(answer: Result<(), Refusal>) -> u32 {
-    answer.map_or_else(|refusal| u32::from(refusal.number()), |()| DONE)
-}
+use fm8502::library::MACHINE_SIZE;
+use reference::{image, GateState, Machine};
 
 pub fn run(memory: &[u32], waits: &[u16], machine: &Machine, count: u32) -> Outcome {
     let mut outcome = Outcome::as_lent(memory, &machine_words(machine), 2);
     let result = reference::run(&mut outcome.memory, waits, *machine, count);
-    outcome.code = match result.answer {
-        Answer::Finished => DONE,
-        Answer::Outside => STOPPED,
-        Answer::Refused(refusal) => code(Err(refusal)),
-    };
+    outcome.code = codes::of_run(result.answer);
     if outcome.carried_out() {
         outcome.words = machine_words(&result.machine).to_vec();
         outcome.result = vec![u64::from(result.ran), result.clocks];
@@ -30,11 +23,7 @@ pub fn file_run(memory: &[u32], places: usize, machine: &Machine, count: u32) ->
     outcome.journal = vec![guard(); places];
     let journal = &mut outcome.journal;
     let result = reference::file_run(&mut outcome.memory, journal, *machine, count);
-    outcome.code = match result.answer {
-        FileAnswer::Finished => DONE,
-        FileAnswer::Undone => STOPPED,
-        FileAnswer::Refused(refusal) => code(Err(refusal)),
-    };
+    outcome.code = codes::of_file_run(result.answer);
     if outcome.carried_out() {
         outcome.words = machine_words(&result.machine).to_vec();
         outcome.result = vec![u64::from(result.ran), u64::from(result.pairs)];
@@ -45,7 +34,7 @@ pub fn file_run(memory: &[u32], places: usize, machine: &Machine, count: u32) ->
 pub fn gate_run(memory: &[u32], waits: &[u16], state: &GateState, clocks: u64) -> Outcome {
     let mut outcome = Outcome::as_lent(memory, &state_words(state), 1);
     let result = reference::gate_run(&mut outcome.memory, waits, *state, clocks);
-    outcome.code = code(result.answer);
+    outcome.code = codes::of_call(result.answer);
     if outcome.carried_out() {
         outcome.words = state_words(&result.state).to_vec();
         outcome.result = vec![result.finished];
@@ -58,7 +47,7 @@ pub fn clock(memory: &[u32], waits: &[u16], state: &mut GateState) -> Outcome {
     let mut outcome = Outcome::as_lent(memory, &[], 1);
     match reference::gate_clock(&mut outcome.memory, waits, state) {
         Ok(finished) => outcome.result = vec![finished],
-        Err(refusal) => outcome.code = code(Err(refusal)),
+        Err(refusal) => outcome.code = codes::refused(refusal),
     }
     outcome.words = state_words(state).to_vec();
     outcome
@@ -67,7 +56,7 @@ pub fn clock(memory: &[u32], waits: &[u16], state: &mut GateState) -> Outcome {
 pub fn image_read(bytes: &[u8], memory: &[u32]) -> Outcome {
     let mut outcome = Outcome::as_lent(memory, &[guard(); MACHINE_SIZE], 1);
     let result = image::read(bytes, &mut outcome.memory);
-    outcome.code = code(result.answer);
+    outcome.code = codes::of_call(result.answer);
     if outcome.carried_out() {
         outcome.words = machine_words(&result.machine).to_vec();
         outcome.result = vec![u64::from(result.words)];
@@ -80,7 +69,7 @@ pub fn image_write(memory: &[u32], machine: &Machine, room: usize) -> Outcome {
     outcome.output = vec![guard(); room];
     match image::write(machine, memory, &mut outcome.output) {
         Ok(size) => outcome.result = vec![size as u64],
-        Err(refusal) => outcome.code = code(Err(refusal)),
+        Err(refusal) => outcome.code = codes::refused(refusal),
     }
     outcome
 }

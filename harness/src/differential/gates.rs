@@ -36,7 +36,22 @@ pub fn check_around(rng: &mut Rng, program: &Program, total: u64) -> Check {
     check_parts(program, &state, [first, second, longest - first - second])
 }
 
-fn check_gate_run(program: &Program, state: &GateState, clocks: u64) -> Check {
+/// Gate runs that end while the word that halts is read, and after it, and one of
+/// all the clocks there are. Past the clock total that word takes a clock for its
+/// address and, with its wait, some for its read.
+pub fn check_halt(rng: &mut Rng, program: &Program, total: u64) -> Check {
+    let Program { memory, waits, .. } = program;
+    let state = start(rng, program);
+    let between = reference::gate_run(&mut memory.clone(), waits, state, total).state;
+    let wait = waits.get(between.position as usize).copied();
+    let halt = total + 2 + u64::from(wait.unwrap_or(0));
+    for clocks in [halt - 1, halt, halt + 1, u64::MAX] {
+        check_gate_run(program, &state, clocks)?;
+    }
+    Ok(())
+}
+
+pub fn check_gate_run(program: &Program, state: &GateState, clocks: u64) -> Check {
     let Program { memory, waits, .. } = program;
     let proved = proved::gate_run(memory, waits, state, clocks);
     let expected = expected::gate_run(memory, waits, state, clocks);
@@ -75,7 +90,7 @@ pub fn check_state(rng: &mut Rng) -> Check {
 }
 
 /// Each clock advances the state and the memory that the clock before it left.
-fn check_clocks(program: &Program, start: GateState, clocks: usize) -> Check {
+pub fn check_clocks(program: &Program, start: GateState, clocks: usize) -> Check {
     let mut state = start;
     let mut proved = Outcome::as_lent(&program.memory, &state_words(&start), 1);
     for number in 1..=clocks {

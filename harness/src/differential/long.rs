@@ -5,6 +5,7 @@ use super::programs::{self, Tally};
 use super::Check;
 use crate::words::compute;
 use reference::file_run::MOST_INSTRUCTIONS;
+use reference::generate::halting::halting_bits;
 use reference::generate::program::Program;
 use reference::refusal::MOST_WAITS;
 use reference::rng::Rng;
@@ -24,12 +25,16 @@ pub fn check(rng: &mut Rng, tally: &mut Tally) -> Check {
         let waits = (0..entries).map(|i| (i % 7) as u16 + 1).collect();
         programs::check_program(rng, &crossing_its_list(waits), tally)?;
     }
-    for outside in [false, true] {
-        let program = full_journal(rng, outside);
+    let store = compute(ADD, NONE, Operand::Direct(1), Operand::After(4));
+    let outside = compute(ADD, NONE, Operand::Direct(1), Operand::Before(5));
+    let no_instruction = store | halting_bits(rng);
+    for last in [store, outside, no_instruction] {
+        let program = full_journal(rng, store, last);
         programs::check_program(rng, &program, tally)?;
     }
     // A gate run of so many clocks would take too long.
-    let total = programs::check_run(&crossing_its_list(vec![u16::MAX; MOST_WAITS]), tally)?;
+    let run = programs::check_run(&crossing_its_list(vec![u16::MAX; MOST_WAITS]), tally)?;
+    let total = run.result[1];
     if total <= u64::from(u32::MAX) {
         return Err(format!("a clock total of {total} is of 32 bits\n"));
     }
@@ -56,14 +61,12 @@ fn crossing_its_list(waits: Vec<u16>) -> Program {
     }
 }
 
-/// As many stores as a journal can need, each to a word of its own; or all but
-/// one of them, the last instruction being outside.
-fn full_journal(rng: &mut Rng, outside: bool) -> Program {
+/// As many stores as a journal can need, each to a word of its own, of which the
+/// last may be another word.
+fn full_journal(rng: &mut Rng, store: u32, last: u32) -> Program {
     let count = MOST_INSTRUCTIONS as usize;
-    let mut memory = vec![compute(ADD, NONE, Operand::Direct(1), Operand::After(4)); count];
-    if outside {
-        memory[count - 1] = compute(ADD, NONE, Operand::Direct(1), Operand::Before(5));
-    }
+    let mut memory = vec![store; count];
+    memory[count - 1] = last;
     memory.extend((0..count).map(|_| rng.word()));
     let mut start = Machine::default();
     start.registers[1] = 7;

@@ -4,6 +4,7 @@ mod alone;
 pub mod directed;
 mod expected;
 pub mod gates;
+pub mod halting;
 pub mod images;
 mod lent;
 pub mod limits;

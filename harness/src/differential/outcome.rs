@@ -2,7 +2,7 @@
 
 use super::lent::guard;
 use crate::text::{hex_bytes, hex_words};
-use fm8502::library::{DONE, STOPPED};
+use fm8502::library::{DONE, HALTED, STOPPED};
 use std::fmt;
 
 #[derive(Clone, Debug, PartialEq, Eq)]
@@ -34,7 +34,7 @@ impl Outcome {
     }
 
     pub fn carried_out(&self) -> bool {
-        matches!(self.code, DONE | STOPPED)
+        matches!(self.code, DONE | STOPPED | HALTED)
     }
 }
 

@@ -1,8 +1,10 @@
 //! Programs: runs, file runs, and gate runs around the clock total.
 
+use super::outcome::Outcome;
 use super::{expected, gates, proved, run_case, same, Check};
-use fm8502::library::STOPPED;
-use reference::generate::program::{any_program, looping_program, Program};
+use fm8502::library::{HALTED, STOPPED};
+use reference::generate::looping::looping_program;
+use reference::generate::program::{any_program, Program};
 use reference::rng::Rng;
 use std::fmt;
 
@@ -12,6 +14,7 @@ pub struct Tally {
     pub instructions: u64,
     pub clocks: u64,
     pub outside: u64,
+    pub halted: u64,
     pub journal_pairs: u64,
 }
 
@@ -19,8 +22,8 @@ impl fmt::Display for Tally {
     fn fmt(&self, f: &mut fmt::Formatter<'_>) -> fmt::Result {
         write!(
             f,
-            "{} instructions, {} clocks, {} outside, {} journal pairs",
-            self.instructions, self.clocks, self.outside, self.journal_pairs
+            "{} instructions, {} clocks, {} outside, {} halted, {} journal pairs",
+            self.instructions, self.clocks, self.outside, self.halted, self.journal_pairs
         )
     }
 }
@@ -36,13 +39,18 @@ pub fn check_looping(rng: &mut Rng, tally: &mut Tally) -> Check {
 }
 
 pub fn check_program(rng: &mut Rng, program: &Program, tally: &mut Tally) -> Check {
-    let total = check_run(program, tally)?;
+    let run = check_run(program, tally)?;
     check_file_run(rng, program, tally)?;
-    gates::check_around(rng, program, total)
+    let total = run.result[1];
+    gates::check_around(rng, program, total)?;
+    if run.code == HALTED {
+        gates::check_halt(rng, program, total)?;
+    }
+    Ok(())
 }
 
-/// Returns the clock total.
-pub fn check_run(program: &Program, tally: &mut Tally) -> Result<u64, String> {
+/// Returns what is expected: the clock total is its second result.
+pub fn check_run(program: &Program, tally: &mut Tally) -> Result<Outcome, String> {
     let Program {
         memory,
         waits,
@@ -57,7 +65,8 @@ pub fn check_run(program: &Program, tally: &mut Tally) -> Result<u64, String> {
     tally.instructions += expected.result[0];
     tally.clocks += expected.result[1];
     tally.outside += u64::from(expected.code == STOPPED);
-    Ok(expected.result[1])
+    tally.halted += u64::from(expected.code == HALTED);
+    Ok(expected)
 }
 
 /// With a journal of just enough places, of more, and of too few.

@@ -13,6 +13,16 @@ use std::ops::Range;
 /// No entries, and as many as the list may have, one more, and more.
 const LIST_LENGTHS: [usize; 4] = [0, 65_536, 65_537, 70_000];
 
+/// Whether an access has begun, and its clocks left: none; one with 1 clock and with
+/// the most; begun without clocks; clocks without one begun.
+const ACCESSES: [(bool, u16); 5] = [
+    (false, 0),
+    (true, 1),
+    (true, u16::MAX),
+    (true, 0),
+    (false, 1),
+];
+
 /// Places in a state's words.
 const FLAGS: Range<usize> = 8..12;
 const ROW: usize = 12;
@@ -30,6 +40,7 @@ pub fn check(rng: &mut Rng) -> Result<usize, String> {
             check_run(memory, &waits[..entries], &good.start)?;
             calls += 1 + check_gate(rng, memory, &waits[..entries])?;
             calls += check_too_wide(memory, &waits[..entries])?;
+            calls += check_rows(memory, &waits[..entries])?;
         }
         for entries in [0, 1, 2, 3, 5, 65_535, 65_536, 65_537] {
             calls += check_positions(memory, &waits[..entries])?;
@@ -67,6 +78,37 @@ fn check_gate(rng: &mut Rng, memory: &[u32], waits: &[u16]) -> Result<usize, Str
     Ok(STATES)
 }
 
+/// Each row, and some past the last, with and without an access.
+fn check_rows(memory: &[u32], waits: &[u16]) -> Result<usize, String> {
+    let mut calls = 0;
+    for row in (0..=14).chain([127, 128, 255]) {
+        for (begun, left) in ACCESSES {
+            let state = GateState {
+                row,
+                begun,
+                left,
+                ..GateState::default()
+            };
+            calls += check_one_clock(memory, waits, &state)?;
+        }
+    }
+    Ok(calls)
+}
+
+/// As a gate run and as the one-clock call; returns that these are two.
+fn check_one_clock(memory: &[u32], waits: &[u16], state: &GateState) -> Result<usize, String> {
+    let case = || {
+        let far = format!("{state:X?}\na clock");
+        run_case(memory, &state.machine(), waits, far)
+    };
+    let expected = expected::gate_run(memory, waits, state, 1);
+    let run = proved::gate_run(memory, waits, state, 1);
+    same("gate run", &run, &expected, case)?;
+    let clock = proved::clock(memory, waits, &state_words(state));
+    same("clock", &clock, &expected, case)?;
+    Ok(2)
+}
+
 /// List positions up to the list's end, at it and past it, in a state that is good
 /// otherwise: row 4 takes an entry.
 fn check_positions(memory: &[u32], waits: &[u16]) -> Result<usize, String> {
@@ -75,27 +117,20 @@ fn check_positions(memory: &[u32], waits: &[u16]) -> Result<usize, String> {
     let mut positions = vec![0, 1, last, end, end + 1, 65_536, 65_537, 1 << 31, u32::MAX];
     positions.sort();
     positions.dedup();
+    let mut calls = 0;
     for &position in &positions {
         let state = GateState {
             row: 4,
             position,
             ..GateState::default()
         };
-        let case = || {
-            let far = format!("row 4, list position {position}, a clock");
-            run_case(memory, &state.machine(), waits, far)
-        };
-        let expected = expected::gate_run(memory, waits, &state, 1);
-        let run = proved::gate_run(memory, waits, &state, 1);
-        same("gate run", &run, &expected, case)?;
-        let clock = proved::clock(memory, waits, &state_words(&state));
-        same("clock", &clock, &expected, case)?;
+        calls += check_one_clock(memory, waits, &state)?;
     }
-    Ok(2 * positions.len())
+    Ok(calls)
 }
 
 /// Words that are no row of 8 bits or no clocks left of 16 bits are refused as a row
-/// above 11 is, and flags that are lent as 9 stay.
+/// above 12 is, and flags that are lent as 9 stay.
 fn check_too_wide(memory: &[u32], waits: &[u16]) -> Result<usize, String> {
     let bad_row = GateState {
         row: 255,
@@ -139,26 +174,26 @@ fn check_file_run(memory: &[u32], start: &Machine) -> Result<usize, String> {
 }
 
 /// Refused or undone, a run leaves the machine's words, flags that are lent as 9
-/// among them. The memory's one word increments r1, so that the second instruction is
-/// outside.
+/// among them. The memory's first word increments r1; then the run is outside, or the
+/// next word is no instruction.
 fn check_words_kept(long_waits: &[u16]) -> Result<usize, String> {
-    let mut memory = [0x0001_0021];
+    const INCREMENT: u32 = 0x0001_0021;
+    Ok(check_kept(&mut [INCREMENT], long_waits)?
+        + check_kept(&mut [INCREMENT, INCREMENT | 1 << 14], long_waits)?)
+}
+
+fn check_kept(memory: &mut [u32], long_waits: &[u16]) -> Result<usize, String> {
     let mut machine = [0; MACHINE_SIZE];
     machine[FLAGS].fill(9);
     let lent = machine;
     let result = &mut [0; 2];
 
-    let run = library::run(&mut memory, long_waits, &mut machine, 9, result);
+    let run = library::run(memory, long_waits, &mut machine, 9, result);
     let mut codes = vec![run];
     for places in [0, 17, 18] {
         let journal = &mut vec![0; places];
-        codes.push(library::file_run(
-            &mut memory,
-            journal,
-            &mut machine,
-            9,
-            result,
-        ));
+        let code = library::file_run(memory, journal, &mut machine, 9, result);
+        codes.push(code);
     }
     if codes != [3, 6, 6, STOPPED] || machine != lent {
         return Err(format!(

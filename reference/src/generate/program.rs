@@ -1,12 +1,13 @@
 //! Programs with their memory, wait list, start and count.
 
 use super::flags;
-use crate::instruction::{Instruction, Operand};
-use crate::machine::{Flags, Machine};
+use super::halting::halting_bits;
+use crate::instruction::{Instruction, Operand, HALTING_BITS};
+use crate::machine::Machine;
 use crate::rng::Rng;
 
-/// Bits of an instruction word that have no effect.
-const UNUSED_BITS: u32 = 0xFFF0_4000;
+/// One instruction word in so many is made to halt the card.
+const WORDS_PER_HALTING: usize = 30;
 
 /// One call of a run.
 #[derive(Clone, Debug, PartialEq, Eq)]
@@ -18,7 +19,8 @@ pub struct Program {
 }
 
 /// What a program is meant to provoke. Uniformly random words soon run outside,
-/// so most kinds keep their pointers within memory.
+/// so most kinds keep their pointers within memory; and nearly all of them would
+/// halt, so most instruction words have no halting bit.
 #[derive(Clone, Copy, Debug, PartialEq, Eq)]
 pub enum Kind {
     /// Code below, data above; r4 to r7 are pointers that only step.
@@ -31,7 +33,7 @@ pub enum Kind {
     OneRegister,
     /// All fields of all words alike.
     Uniform,
-    /// Any 32 bits in memory and registers.
+    /// Any fields in memory, any 32 bits in registers.
     Wild,
 }
 
@@ -70,54 +72,29 @@ pub fn program(rng: &mut Rng, kind: Kind) -> Program {
     }
 }
 
-/// A program that goes round for some thousands of instructions and never leaves
-/// memory: it sets the pointers r4 to r7 to the middle of its data, does a few
-/// tame instructions and jumps to its first word.
-pub fn looping_program(rng: &mut Rng) -> Program {
-    let body = rng.between(2, 24);
-    let code = 2 * 4 + body + 2;
-    // An instruction steps a pointer by two at most.
-    let data = 4 * body + 1;
-    let mut memory = Vec::with_capacity(code + data);
-    for pointer in 4..8 {
-        memory.extend([load(pointer), (code + 2 * body) as u32]);
-    }
-    memory.extend((0..body).map(|_| tame_word(rng)));
-    // The word taken steps r0 up too, to 0.
-    memory.extend([load(0), u32::MAX]);
-    memory.extend((0..data).map(|_| data_word(rng, code + data)));
-    let count = rng.between(2_000, 5_000) as u32;
-    Program {
-        memory,
-        waits: waits(rng, count as usize),
-        start: Machine {
-            registers: [0, rng.word(), rng.word(), rng.word(), 0, 0, 0, 0],
-            flags: flags(rng),
-        },
-        count,
-    }
-}
-
-/// The register is set to the word behind the instruction.
-fn load(register: u8) -> u32 {
-    let instruction = Instruction {
-        a: Operand::After(0),
-        b: Operand::Direct(register),
-        permit: Flags::default(),
-        is_move: false,
-        operation: 0,
-    };
-    instruction.encode()
-}
-
 /// The word at `at` of a memory of `length` words.
 fn word(rng: &mut Rng, kind: Kind, at: usize, length: usize) -> u32 {
     match kind {
-        Kind::Tame if at < length / 2 => tame_word(rng),
-        Kind::Tame => data_word(rng, length),
-        Kind::SelfModifying => self_modifying_word(rng),
+        Kind::Tame if at >= length / 2 => data_word(rng, length),
         // A small word serves as constant and, run into, as an instruction.
         Kind::ProgramCounter if at % 2 == 1 => rng.below(length) as u32,
+        _ => code_word(rng, kind),
+    }
+}
+
+fn code_word(rng: &mut Rng, kind: Kind) -> u32 {
+    let instruction = instruction_word(rng, kind);
+    if rng.one_in(WORDS_PER_HALTING) {
+        instruction | halting_bits(rng)
+    } else {
+        instruction
+    }
+}
+
+fn instruction_word(rng: &mut Rng, kind: Kind) -> u32 {
+    match kind {
+        Kind::Tame => tame_word(rng),
+        Kind::SelfModifying => self_modifying_word(rng),
         Kind::ProgramCounter => program_counter_word(rng),
         Kind::OneRegister => {
             let register = rng.below(8);
@@ -130,12 +107,12 @@ fn word(rng: &mut Rng, kind: Kind, at: usize, length: usize) -> u32 {
             let b = any_operand(rng);
             encode(rng, a, b)
         }
-        Kind::Wild => rng.word(),
+        Kind::Wild => rng.word() & !HALTING_BITS,
     }
 }
 
 /// Never writes a pointer or r0, so that it runs on.
-fn tame_word(rng: &mut Rng) -> u32 {
+pub(super) fn tame_word(rng: &mut Rng) -> u32 {
     let a = tame_operand(rng, 0);
     let b = tame_operand(rng, 1);
     encode(rng, a, b)
@@ -149,7 +126,7 @@ fn tame_operand(rng: &mut Rng, lowest: usize) -> Operand {
     }
 }
 
-fn data_word(rng: &mut Rng, length: usize) -> u32 {
+pub(super) fn data_word(rng: &mut Rng, length: usize) -> u32 {
     match rng.below(3) {
         0 => rng.pick(&[0, 1, 0x7FFF_FFFF, 0x8000_0000, 0xFFFF_FFFF]),
         1 => rng.below(length) as u32,
@@ -214,8 +191,7 @@ fn operand_of(mode: usize, register: usize) -> Operand {
     Operand::decode((mode << 3 | register) as u32)
 }
 
-/// The operands with any operation, condition and permits, at times with
-/// unused bits set.
+/// The operands with any operation, condition and permits.
 fn encode(rng: &mut Rng, a: Operand, b: Operand) -> u32 {
     let instruction = Instruction {
         a,
@@ -224,12 +200,7 @@ fn encode(rng: &mut Rng, a: Operand, b: Operand) -> u32 {
         is_move: rng.one_in(3),
         operation: rng.below(16) as u8,
     };
-    let unused = if rng.one_in(4) {
-        rng.word() & UNUSED_BITS
-    } else {
-        0
-    };
-    instruction.encode() | unused
+    instruction.encode()
 }
 
 fn start(rng: &mut Rng, kind: Kind, length: usize) -> Machine {
@@ -239,7 +210,7 @@ fn start(rng: &mut Rng, kind: Kind, length: usize) -> Machine {
             _ if number == 0 => first_address(rng, kind, length),
             Kind::Tame if number < 4 => data_word(rng, length),
             Kind::Tame => rng.between(length * 5 / 8, length * 7 / 8) as u32,
-            Kind::SelfModifying if number < 4 => tame_word(rng),
+            Kind::SelfModifying if number < 4 => code_word(rng, Kind::Tame),
             Kind::SelfModifying => rng.between(2, length - 3) as u32,
             Kind::Wild if rng.flag() => rng.word(),
             _ => any_address(rng, length),
@@ -271,7 +242,7 @@ fn any_address(rng: &mut Rng, length: usize) -> u32 {
 
 /// None, a few that come round many times, fewer than the run needs, or more; now
 /// and then one wait is very long.
-fn waits(rng: &mut Rng, count: usize) -> Vec<u16> {
+pub(super) fn waits(rng: &mut Rng, count: usize) -> Vec<u16> {
     let entries = match rng.below(4) {
         0 => 0,
         1 => rng.pick(&[1, 2, 3, 5]),

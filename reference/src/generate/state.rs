@@ -1,13 +1,13 @@
 //! Gate states a host may lend, good and bad.
 
 use super::flags;
-use crate::gates::GateState;
+use crate::gates::{GateState, HALTED_ROW};
 use crate::rng::Rng;
 
 /// An accepted state in any row, for a memory of `words` words and a wait list
 /// of `entries` entries; the latches need not fit each other.
 pub fn gate_state(rng: &mut Rng, words: usize, entries: usize) -> GateState {
-    let row = rng.below(12) as u8;
+    let row = rng.between(0, HALTED_ROW.into()) as u8;
     let begun = is_access(row) && rng.flag();
     let left = match rng.below(10) {
         _ if !begun => 0,
@@ -39,10 +39,10 @@ pub fn gate_state(rng: &mut Rng, words: usize, entries: usize) -> GateState {
 pub fn refused_gate_state(rng: &mut Rng, words: usize, entries: usize) -> GateState {
     let mut state = gate_state(rng, words, entries);
     match rng.below(5) {
-        0 => state.row = rng.between(12, 255) as u8,
+        0 => state.row = row_past(rng),
         1 => state.position = position_past(rng, entries),
         2 => {
-            state.row = rng.pick(&[0, 2, 3, 5, 7, 8, 10, 11]);
+            state.row = rng.pick(&[0, 2, 3, 5, 7, 8, 10, 11, HALTED_ROW]);
             state.begun = true;
             state.left = rng.between(1, 5) as u16;
         }
@@ -57,6 +57,16 @@ pub fn refused_gate_state(rng: &mut Rng, words: usize, entries: usize) -> GateSt
         }
     }
     state
+}
+
+/// Above the last row; every other time just above it.
+fn row_past(rng: &mut Rng) -> u8 {
+    let first = HALTED_ROW + 1;
+    if rng.flag() {
+        first
+    } else {
+        rng.between(first.into(), u8::MAX.into()) as u8
+    }
 }
 
 /// At the list's end or past it; 0 fits an empty list, so 1 is the first past that.

@@ -1,11 +1,11 @@
 use Prim.Native.Nat.{_-_, _^_, _<_}
-use mathlib.Core.Path.{_∙_}
+use mathlib.Core.Path.{sym, _∙_}
 use native.Mathlib.Omega.{arith}
 use borrow.Author.Tests.{not-true, not-false}
 use borrow.Author.Needs.{needs}
 use Rattle.model.specs.Waits.{waitAt}
 use Rattle.model.specs.Packed.{packedMachine}
-use Rattle.engine.proofs.Turns.{At, begins, from-start, clocks-fit, turn, outside, finished}
+use Rattle.engine.proofs.Turns.{At, begins, from-start, clocks-fit, turn, stopped, finished}
 use Rattle.engine.proofs.engine.Statement.{statement}
 use Rattle.engine.proofs.engine.Tie as tie
 
@@ -36,6 +36,9 @@ loop-holds c = begins
 step-requires : tie.Need-step-requires Inv-loop μ-loop
 step-requires c κs = search needs
 
+goes-on-requires : tie.Need-goes-on-requires Inv-loop μ-loop
+goes-on-requires c κs = search needs
+
 run-end-requires : tie.Need-run-end-requires Inv-loop μ-loop
 run-end-requires c κs = search needs
 
@@ -54,8 +57,8 @@ returns c =
     let stepped = c .before .before .before .before .before .before .before in
     let entered = stepped .before .before .before .before in
     from-start (entered .before .before .packed .ensures)
-    (outside (entered .before .loop .inv) (entered .loop-test .taken) (stepped .step .ensures) (not-true _ (c .before .if1 .taken))
-    (c .run-end .ensures))
+    (stopped (entered .before .loop .inv) (entered .loop-test .taken) (stepped .step .ensures)
+    (sym (c .before .before .goes-on .ensures) ∙ not-true _ (c .before .if1 .taken)) (c .run-end .ensures))
 
 clocked-requires : tie.Need-clocked-requires Inv-loop μ-loop
 clocked-requires c κs =
@@ -72,8 +75,8 @@ loop-again : tie.Need-loop-again Inv-loop μ-loop
 loop-again c =
     let stepped = c .before .before .before .before .before .before .before in
     let entered = stepped .before .before .before .before in
-    turn (entered .before .loop .inv) (entered .loop-test .taken) (stepped .step .ensures) (not-false _ (c .before .if1 .left))
-    (c .clocked .ensures) (few-at entered) (stepped .step .kept .1 .0) (stepped .step .kept .1 .1 .0)
+    turn (entered .before .loop .inv) (entered .loop-test .taken) (stepped .step .ensures)
+    (sym (c .before .before .goes-on .ensures) ∙ not-false _ (c .before .if1 .left)) (c .clocked .ensures) (few-at entered) (stepped .step .kept .1 .0) (stepped .step .kept .1 .1 .0)
 
 run-end-requires-2 : tie.Need-run-end-requires-2 Inv-loop μ-loop
 run-end-requires-2 c κs = search needs
@@ -98,6 +101,7 @@ engine-spec =
     packed-requires
     loop-holds
     step-requires
+    goes-on-requires
     run-end-requires
     same-length
     same-length-2

@@ -18,14 +18,8 @@ slice-aggregate-engine c = search needs
 engine-requires : tie.Need-engine-requires
 engine-requires c κs = search needs
 
-enum-told-2 : tie.Need-enum-told-2
-enum-told-2 c = search needs
-
-enum-told-3 : tie.Need-enum-told-3
-enum-told-3 c = search needs
-
-undo-requires : tie.Need-undo-requires
-undo-requires c κs = search needs
+goes-on-requires : tie.Need-goes-on-requires
+goes-on-requires c κs = search needs
 
 same-length : tie.Need-same-length
 same-length c = search needs
@@ -34,7 +28,15 @@ same-length-2 : tie.Need-same-length-2
 same-length-2 c = search needs
 
 returns : tie.Need-returns
-returns c = file-refused (c .before .before .before .file-verdict .ensures) (c .before .why .given .1)
+returns c =
+    let told = c .before .before in
+    let ran = told .before .before .before .before .before in
+    let accepted = ran .before .before .before .before in
+    file-finished (accepted .before .before .file-verdict .ensures) (accepted .enum-told .given .1) (ran .engine .ensures) (told .goes-on .ensures)
+    (c .before .if1 .taken)
+
+undo-requires : tie.Need-undo-requires
+undo-requires c κs = search needs
 
 same-length-3 : tie.Need-same-length-3
 same-length-3 c = search needs
@@ -43,10 +45,7 @@ same-length-4 : tie.Need-same-length-4
 same-length-4 c = search needs
 
 returns-2 : tie.Need-returns-2
-returns-2 c =
-    let ran = c .before .before .before .before .before .before .before in
-    let told = ran .before .before .before .before in
-    file-finished (told .before .before .file-verdict .ensures) (told .enum-told .given .1) (ran .engine .ensures) (c .before .enum-told2 .given .1)
+returns-2 c = file-refused (c .before .before .before .file-verdict .ensures) (c .before .why .given .1)
 
 same-length-5 : tie.Need-same-length-5
 same-length-5 c = search needs
@@ -56,10 +55,12 @@ same-length-6 c = search needs
 
 returns-3 : tie.Need-returns-3
 returns-3 c =
-    let ran = c .before .before .before .before .before .before .before .before .before .before .before in
-    let told = ran .before .before .before .before in
-    file-undone (told .before .before .file-verdict .ensures) (told .enum-told .given .1) (ran .engine .ensures)
-    (c .before .before .before .before .before .enum-told3 .given .1) (c .before .before .undo .ensures)
+    let tested = c .before .before .before .before .before in
+    let told = tested .before in
+    let ran = told .before .before .before .before .before in
+    let accepted = ran .before .before .before .before in
+    file-undone (accepted .before .before .file-verdict .ensures) (accepted .enum-told .given .1) (ran .engine .ensures) (told .goes-on .ensures)
+    (tested .if1 .left) (c .before .before .undo .ensures)
 
 pub file-run-spec : {M : Type 1} → statement M
 file-run-spec =
@@ -70,12 +71,11 @@ file-run-spec =
     enum-told
     slice-aggregate-engine
     engine-requires
-    enum-told-2
-    enum-told-3
-    undo-requires
+    goes-on-requires
     same-length
     same-length-2
     returns
+    undo-requires
     same-length-3
     same-length-4
     returns-2

@@ -21,7 +21,7 @@ abbrev μ-loop : tie.MeasureT-loop
 μ-loop memory₀ waits clocks table regs₀ s₀ finished₀ i₀ memory regs s finished i = clocks - i
 
 -- the row that the loop has come to is one of the table
-row-at : (l : tie.At-loop Inv-loop μ-loop) → l .loop .s .row < 12
+row-at : (l : tie.At-loop Inv-loop μ-loop) → l .loop .s .row < 13
 row-at l =
     let start = l .before .before .before .before .before .before in
     row-there _ _ (stateOf (start .args .start .regs) (l .before .latches-of .result)) (rw (l .before .latches-of .ensures) (start .pre)) _

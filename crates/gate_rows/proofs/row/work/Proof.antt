@@ -16,8 +16,8 @@ cast-load c = search needs
 load-requires : tie.Need-load-requires
 load-requires c κs = search needs
 
-latch-instruction-requires : tie.Need-latch-instruction-requires
-latch-instruction-requires c κs = search needs
+read-instruction-requires : tie.Need-read-instruction-requires
+read-instruction-requires c κs = search needs
 
 step-pc-requires : tie.Need-step-pc-requires
 step-pc-requires c κs = search needs
@@ -94,6 +94,9 @@ step-up-requires-2 c κs = search needs
 moved-requires-5 : tie.Need-moved-requires-5
 moved-requires-5 c κs = search needs
 
+moved-requires-6 : tie.Need-moved-requires-6
+moved-requires-6 c κs = search needs
+
 returns : tie.Need-returns
 returns c = by 0 (c .before .before .match .keys1) (c .latch-address .ensures _) refl
 
@@ -103,7 +106,7 @@ same-length c = search needs
 returns-2 : tie.Need-returns-2
 returns-2 c =
     by 1 (c .before .before .before .before .match .keys2)
-    (c .latch-instruction .ensures _ ∙ rw (c .before .load .ensures)) refl
+    (c .read-instruction .ensures _ ∙ rw (c .before .load .ensures)) refl
 
 returns-3 : tie.Need-returns-3
 returns-3 c = by 2 (c .before .before .before .match .keys3) (c .moved .ensures _ ∙ rw (c .before .step-pc .ensures)) refl
@@ -157,7 +160,10 @@ returns-12 c =
     (c .moved5 .ensures _ ∙ rw (c .before .step-up2 .ensures, c .before .before .before .operand-b3 .ensures)) refl
 
 returns-13 : tie.Need-returns-13
-returns-13 c = past-table (c .match .rest)
+returns-13 c = by 12 (c .before .match .keys13) (c .moved6 .ensures _) refl
+
+returns-14 : tie.Need-returns-14
+returns-14 c = past-table (c .match .rest)
 
 pub work-spec : {M : Type 1} → statement M
 work-spec =
@@ -167,7 +173,7 @@ work-spec =
     latch-address-requires
     cast-load
     load-requires
-    latch-instruction-requires
+    read-instruction-requires
     step-pc-requires
     moved-requires
     operand-a-requires
@@ -193,6 +199,7 @@ work-spec =
     operand-b-requires-3
     step-up-requires-2
     moved-requires-5
+    moved-requires-6
     returns
     same-length
     returns-2
@@ -209,4 +216,5 @@ work-spec =
     returns-10
     returns-11
     returns-12
-    returns-13)
+    returns-13
+    returns-14)

@@ -28,6 +28,18 @@ put-text-requires-2 c κs = search needs
 add-result-2 : tie.Need-add-result-2
 add-result-2 c = search needs
 
+enum-told-3 : tie.Need-enum-told-3
+enum-told-3 c = search needs
+
+slice-aggregate-put-text-3 : tie.Need-slice-aggregate-put-text-3
+slice-aggregate-put-text-3 c = search needs
+
+put-text-requires-3 : tie.Need-put-text-requires-3
+put-text-requires-3 c κs = search needs
+
+add-result-3 : tie.Need-add-result-3
+add-result-3 c = search needs
+
 same-length : tie.Need-same-length
 same-length c = search needs
 
@@ -44,6 +56,14 @@ returns-2 c =
     rw (c .before .before .before .before .before .enum-told2 .given .1)
     (extends-by 9 (omega arith) (put (c .before .before .put-text2 .ensures)))
 
+same-length-3 : tie.Need-same-length-3
+same-length-3 c = search needs
+
+returns-3 : tie.Need-returns-3
+returns-3 c =
+    rw (c .before .before .before .before .before .enum-told3 .given .1)
+    (extends-by 9 (omega arith) (put (c .before .before .put-text3 .ensures)))
+
 pub put-ending-word-spec : {M : Type 1} → statement M
 put-ending-word-spec =
     tie.close
@@ -56,7 +76,13 @@ put-ending-word-spec =
     slice-aggregate-put-text-2
     put-text-requires-2
     add-result-2
+    enum-told-3
+    slice-aggregate-put-text-3
+    put-text-requires-3
+    add-result-3
     same-length
     returns
     same-length-2
-    returns-2)
+    returns-2
+    same-length-3
+    returns-3)

@@ -3,7 +3,7 @@ use mathlib.Core.Path.{_∙_}
 use native.Mathlib.Omega.{arith}
 use borrow.Author.Needs.{needs}
 use Rattle.ledger_lines.specs.Lines.{mostLines}
-use Rattle.ledger_text.proofs.Turns.{At, begins, at-small, total-fits, turn, outside, finished}
+use Rattle.ledger_text.proofs.Turns.{At, begins, at-small, total-fits, turn, stopped, finished}
 use Rattle.ledger_text.proofs.running.put_run.Statement.{statement}
 use Rattle.ledger_text.proofs.running.put_run.Tie as tie
 
@@ -40,27 +40,31 @@ word-under-requires c κs = search needs
 run-one-requires : tie.Need-run-one-requires Inv-loop μ-loop
 run-one-requires c κs = search needs
 
+ending-of-requires : tie.Need-ending-of-requires Inv-loop μ-loop
+ending-of-requires c κs = search needs
+
 put-ending-requires : tie.Need-put-ending-requires Inv-loop μ-loop
-put-ending-requires c κs = small-at (c .before .before .before .before .before .before .before .before .before .before .before)
+put-ending-requires c κs = small-at (c .before .before .before .before .before .before .before .before .before .before .before .before)
 
 same-length : tie.Need-same-length Inv-loop μ-loop
 same-length c =
-    let ran = c .before .before .before .before .before .before .before .before in
+    let ran = c .before .before .before .before .before .before .before .before .before in
     ran .run-one .kept .0 ∙ ran .before .before .before .before .before .before .loop .inv .words
 
 same-length-2 : tie.Need-same-length-2 Inv-loop μ-loop
 same-length-2 c =
-    let l = c .before .before .before .before .before .before .before .before .before .before .before .before .before .before in
+    let l = c .before .before .before .before .before .before .before .before .before .before .before .before .before .before .before in
     c .before .before .put-ending .kept .0 ∙ l .loop .inv .room ∙ l .before .before .before .put-heading .kept .0
 
 returns : tie.Need-returns Inv-loop μ-loop
 returns c =
-    let ran = c .before .before .before .before .before .before .before .before in
+    let ran = c .before .before .before .before .before .before .before .before .before in
     let entered = ran .before .before .before .before .before in
     let l = entered .before in
     let top = l .before .before .before in
-    outside (l .loop .inv) (ran .run-one .ensures) (top .before .before .before .before .pre) (c .before .before .before .before .if1 .taken)
-    (entered .loop-test .taken) (top .put-heading .ensures .whole) (c .before .before .put-ending .ensures)
+    stopped (l .loop .inv) (ran .run-one .ensures) (top .before .before .before .before .pre) (c .before .before .before .before .before .if1 .taken)
+    (entered .loop-test .taken) (top .put-heading .ensures .whole) (c .before .before .before .ending-of .ensures)
+    (c .before .before .put-ending .ensures)
 
 add-ran : tie.Need-add-ran Inv-loop μ-loop
 add-ran c = omega arith
@@ -112,6 +116,7 @@ put-run-spec =
     element-copy-out-address
     word-under-requires
     run-one-requires
+    ending-of-requires
     put-ending-requires
     same-length
     same-length-2

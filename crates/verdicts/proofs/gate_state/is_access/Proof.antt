@@ -20,7 +20,7 @@ returns : tie.Need-returns
 returns c = ap marksAccess (step-there (c .before .steps .ensures) refl (omega (arith, c .before .before .if1 .taken)) _) ∙ access-mark _
 
 returns-2 : tie.Need-returns-2
-returns-2 c = access-past _ (c .if1 .left)
+returns-2 c = access-past _ (omega (arith, c .if1 .left))
 
 pub is-access-spec : {M : Type 1} → statement M
 is-access-spec = tie.close (tie.spec steps-requires mul-step array-copy-out-step returns returns-2)

@@ -1,0 +1,36 @@
+-- In row 12 no clock changes anything, so a call in it leaves what it was lent, carried out or turned down.
+use Prim.Native.Nat.{ℕ, zero-le}
+use mathlib.Core.Path.{_≡_, refl, sym, ap}
+use mathlib.Core.List.{List}
+use Rattle.model.specs.declared.GateState.{GateState}
+use Rattle.model.specs.declared.Verdict.{Verdict}
+use Rattle.model.specs.declared.Verdict.the-variants.{Accepted, Refused}
+use Rattle.model.specs.GateMachine.{Gate, gateRun}
+use Rattle.model.specs.Refusals.{leftBy, gateVerdict}
+use Rattle.model.specs.Agreement.{gateFrom}
+use Rattle.model.proofs.Clocks.{halted-stands}
+use Rattle.model.proofs.Blocked.{stands-on}
+use Rattle.gate_machine.specs.Calls.{gateResult, gateReturned, gateWords}
+use Rattle.agreement.specs.Halted.{Unchanged, HaltedRun, HaltedClock}
+
+module _ (memory waits : List ℕ) (s : GateState) (k : ℕ) (e : s .row ≡ 12) where
+  stands : gateRun waits k (gateFrom s memory) ≡ gateFrom s memory
+  unfolding gateRun
+  stands = sym (stands-on waits 0 k (gateFrom s memory) refl (halted-stands waits (gateFrom s memory) e) zero-le)
+
+  -- what a gate run returns and leaves, by its verdict
+  by-verdict : (v : Verdict) (g : Gate) → g ≡ gateFrom s memory → let r = gateResult v s g in
+      Unchanged memory s (leftBy v (g .memory) memory) (r .state) (r .outcome .finished)
+  by-verdict Accepted g q =
+      record { state = ap (λ (g : Gate). g .state) q; words = ap (λ (g : Gate). g .memory) q; finished = ap (λ (g : Gate). g .finished) q }
+  by-verdict (Refused why) g q = record { state = refl; words = refl; finished = refl }
+
+  unchanged : let r = gateReturned memory waits s k in Unchanged memory s (gateWords memory waits s k) (r .state) (r .outcome .finished)
+  unfolding gateReturned gateWords
+  unchanged = by-verdict (gateVerdict memory waits s) (gateRun waits k (gateFrom s memory)) stands
+
+pub halted-run : HaltedRun
+halted-run memory waits s k e r memory′ h = rw (h .result, h .words) (unchanged memory waits s k e)
+
+pub halted-clock : HaltedClock
+halted-clock memory waits s e r s′ memory′ h = rw (h .result, h .advanced, h .words) (unchanged memory waits s 1 e)

@@ -1,0 +1,30 @@
+//! The reference emulator's answers as the library's codes.
+
+use fm8502::library::{DONE, HALTED, STOPPED};
+use reference::{Answer, FileAnswer, Refusal, Stop};
+
+pub fn refused(refusal: Refusal) -> u32 {
+    u32::from(refusal.number())
+}
+
+/// Of a call that is refused or carried out as a whole.
+pub fn of_call(answer: Result<(), Refusal>) -> u32 {
+    answer.map_or_else(refused, |()| DONE)
+}
+
+pub fn of_run(answer: Answer) -> u32 {
+    match answer {
+        Answer::Finished => DONE,
+        Answer::Stopped(Stop::Outside) => STOPPED,
+        Answer::Stopped(Stop::NoInstruction) => HALTED,
+        Answer::Refused(refusal) => refused(refusal),
+    }
+}
+
+pub fn of_file_run(answer: FileAnswer) -> u32 {
+    match answer {
+        FileAnswer::Finished => DONE,
+        FileAnswer::Undone => STOPPED,
+        FileAnswer::Refused(refusal) => refused(refusal),
+    }
+}
