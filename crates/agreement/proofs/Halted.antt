@@ -1,6 +1,6 @@
 -- In row 12 no clock changes anything, so a call in it leaves what it was lent, carried out or turned down.
-use Prim.Native.Nat.{ℕ, zero-le}
-use mathlib.Core.Path.{_≡_, refl, sym, ap}
+use Prim.Native.Nat.{ℕ}
+use mathlib.Core.Path.{_≡_, refl, ap}
 use mathlib.Core.List.{List}
 use Rattle.model.specs.declared.GateState.{GateState}
 use Rattle.model.specs.declared.Verdict.{Verdict}
@@ -9,15 +9,11 @@ use Rattle.model.specs.GateMachine.{Gate, gateRun}
 use Rattle.model.specs.Refusals.{leftBy, gateVerdict}
 use Rattle.model.specs.Agreement.{gateFrom}
 use Rattle.model.proofs.Clocks.{halted-stands}
-use Rattle.model.proofs.Blocked.{stands-on}
+use Rattle.model.proofs.Blocked.{stands}
 use Rattle.gate_machine.specs.Calls.{gateResult, gateReturned, gateWords}
 use Rattle.agreement.specs.Halted.{Unchanged, HaltedRun, HaltedClock}
 
 module _ (memory waits : List ℕ) (s : GateState) (k : ℕ) (e : s .row ≡ 12) where
-  stands : gateRun waits k (gateFrom s memory) ≡ gateFrom s memory
-  unfolding gateRun
-  stands = sym (stands-on waits 0 k (gateFrom s memory) refl (halted-stands waits (gateFrom s memory) e) zero-le)
-
   -- what a gate run returns and leaves, by its verdict
   by-verdict : (v : Verdict) (g : Gate) → g ≡ gateFrom s memory → let r = gateResult v s g in
       Unchanged memory s (leftBy v (g .memory) memory) (r .state) (r .outcome .finished)
@@ -27,7 +23,9 @@ module _ (memory waits : List ℕ) (s : GateState) (k : ℕ) (e : s .row ≡ 12)
 
   unchanged : let r = gateReturned memory waits s k in Unchanged memory s (gateWords memory waits s k) (r .state) (r .outcome .finished)
   unfolding gateReturned gateWords
-  unchanged = by-verdict (gateVerdict memory waits s) (gateRun waits k (gateFrom s memory)) stands
+  unchanged =
+      by-verdict (gateVerdict memory waits s) (gateRun waits k (gateFrom s memory))
+      (stands waits (halted-stands waits (gateFrom s memory) e) k)
 
 pub halted-run : HaltedRun
 halted-run memory waits s k e r memory′ h = rw (h .result, h .words) (unchanged memory waits s k e)

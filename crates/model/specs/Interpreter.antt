@@ -33,6 +33,11 @@ goesOn Finished = true
 goesOn Outside = false
 goesOn NoInstruction = false
 
+-- CR 5, why an instruction does not run: its address is missing, "outside"; its word is none, "no instruction"; an address of its A or B is
+-- missing, "outside". Where it runs, `Finished`.
+abbrev pub endingBy : (fetch word operands : Bool) → Ending
+endingBy fetch word operands = cond fetch (cond word (cond operands Finished Outside) NoInstruction) Outside
+
 -- ---- one instruction, from a memory and a machine
 
 abbrev pub machineWith : List ℕ → Flags → Machine
@@ -78,15 +83,10 @@ module _ (memory : List ℕ) (m : Machine) where
   abbrev pub presentB : Bool
   presentB = operandPresent opB regsB memory
 
-  -- CR 5, why the next instruction does not run: its address is missing, "outside"; its word is none, "no instruction"; an address of its A
-  -- or B is missing, "outside". Where it runs, `Finished`.
+  -- why it does not run, and whether it does
   abbrev pub nextEnding : Ending
-  nextEnding =
-      cond (present memory pc)
-      (cond (isInstruction instruction) (cond (presentA && presentB) Finished Outside) NoInstruction)
-      Outside
+  nextEnding = endingBy (present memory pc) (isInstruction instruction) (presentA && presentB)
 
-  -- whether it runs
   abbrev pub nextRuns : Bool
   nextRuns = goesOn nextEnding
 

@@ -1,7 +1,7 @@
 -- One instruction: its operands taken or the registers put back, its store, and the whole.
 use Prim.Native.Nat.{ℕ, _≤_, _<_}
 use mathlib.Core.Path.{_≡_, refl, sym, ap, _∙_}
-use mathlib.Core.Bool.{Bool, true, false, cond, _&&_}
+use mathlib.Core.Bool.{Bool, true, false, _&&_}
 use mathlib.Core.List.{List}
 use lib.ListN.{length, set}
 use Rattle.model.specs.declared.Operand.{Operand}
@@ -89,23 +89,19 @@ module _ (regs memory : List ℕ) where
         registers = p ∙ cond-true (I.regsB memory (bare regs)) regs runs;
       }
 
-  -- why it does not run, by what is there
-  abbrev byTests : (fetch word : Bool) → (operands : Bool) → Ending
-  byTests fetch word operands = cond fetch (cond word (cond operands Finished Outside) NoInstruction) Outside
-
   abbrev operandsThere : Bool
   operandsThere = I.presentA memory (bare regs) && I.presentB memory (bare regs)
 
   pub pc-gone : {i : ℕ} → i ≡ wordAt regs 0 → length memory ≤ i → {f : Fetched} → f ≡ nothing Outside → Fetches regs memory regs f
   pc-gone at h e =
-      none (ap (λ (t : Bool). byTests t (isInstruction (I.instruction memory (bare regs))) operandsThere) (fetch-gone regs memory at h)) refl e refl
+      none (ap (λ (t : Bool). I.endingBy t (isInstruction (I.instruction memory (bare regs))) operandsThere) (fetch-gone regs memory at h)) refl e refl
 
   -- the word is there
   module _ {i : ℕ} (at : i ≡ wordAt regs 0) (here : i < length memory) where
-    with-word : {v w : Bool} → v ≡ isInstruction (wordAt memory i) → v ≡ w → next ≡ byTests true w operandsThere
+    with-word : {v w : Bool} → v ≡ isInstruction (wordAt memory i) → v ≡ w → next ≡ I.endingBy true w operandsThere
     with-word is q =
-        ap (λ (t : Bool). byTests t (isInstruction (I.instruction memory (bare regs))) operandsThere) (fetch-here regs memory at here)
-        ∙ ap (λ (t : Bool). byTests true t operandsThere) (sym (is ∙ ap (λ (i : ℕ). isInstruction (wordAt memory i)) at) ∙ q)
+        ap (λ (t : Bool). I.endingBy t (isInstruction (I.instruction memory (bare regs))) operandsThere) (fetch-here regs memory at here)
+        ∙ ap (λ (t : Bool). I.endingBy true t operandsThere) (sym (is ∙ ap (λ (i : ℕ). isInstruction (wordAt memory i)) at) ∙ q)
 
     pub word-none : {v : Bool} → v ≡ isInstruction (wordAt memory i) → v ≡ false → {f : Fetched} → f ≡ nothing NoInstruction → Fetches regs memory regs f
     word-none is q e = none (with-word is q) refl e refl
@@ -119,10 +115,10 @@ module _ (regs memory : List ℕ) where
       a : t ≡ takenOf (I.opA memory (bare regs)) (I.regsA memory (bare regs)) memory
       a = took memory op-a pc h
 
-      with-a : {w : Bool} → t .present ≡ w → next ≡ byTests true true (w && I.presentB memory (bare regs))
+      with-a : {w : Bool} → t .present ≡ w → next ≡ I.endingBy true true (w && I.presentB memory (bare regs))
       with-a q =
           with-word is runs
-          ∙ ap (λ (t : Bool). byTests true true (t && I.presentB memory (bare regs))) (sym (ap (λ (t : Taken). t .present) a) ∙ q)
+          ∙ ap (λ (t : Bool). I.endingBy true true (t && I.presentB memory (bare regs))) (sym (ap (λ (t : Taken). t .present) a) ∙ q)
 
       pub a-gone : t .present ≡ false → {f : Fetched} → f ≡ nothing Outside → Fetches regs memory (set r1 0 (wordAt regs 0)) f
       a-gone q e = none (with-a q) refl e (restored-pc regs (took-back h q ∙ pc))
@@ -139,8 +135,8 @@ module _ (regs memory : List ℕ) where
         b : u ≡ takenOf (I.opB memory (bare regs)) (I.regsB memory (bare regs)) memory
         b = took memory op-b regs-a g
 
-        with-b : {w : Bool} → u .present ≡ w → next ≡ byTests true true w
-        with-b e = with-a q ∙ ap (byTests true true) (sym (ap (λ (t : Taken). t .present) b) ∙ e)
+        with-b : {w : Bool} → u .present ≡ w → next ≡ I.endingBy true true w
+        with-b e = with-a q ∙ ap (I.endingBy true true) (sym (ap (λ (t : Taken). t .present) b) ∙ e)
 
         pub b-gone : u .present ≡ false → {x : ℕ} → x ≡ registerWord oa r0 → {r3 : List ℕ} → r3 ≡ setRegister oa x r2
             → {f : Fetched} → f ≡ nothing Outside → Fetches regs memory (set r3 0 (wordAt regs 0)) f
