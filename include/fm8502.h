@@ -10,8 +10,8 @@
  * Every call ends, returns a code, and touches nothing but the arrays it is lent.
  * It looks at its arguments in this order: the machine's, state's and result's
  * lengths (FM8502_MISFIT), then the reasons to refuse, lowest number first except
- * that an image's fields are taken one by one. After a refusal or a misfit
- * everything lent is as it was.
+ * that 21 comes directly after 2 and that an image's fields are taken one by one.
+ * After a refusal or a misfit everything lent is as it was.
  *
  * A null pointer with length 0 is fine for an empty array. Undefined are:
  * - a length larger than the array that is lent;
@@ -66,7 +66,7 @@ enum {
 
 enum {
     FM8502_DONE = 0,                  /* carried out; a run: "finished" */
-    /* Refused: the numbers of the paper, document 01. */
+    /* Refused: the numbers of the papers, documents 01 and 02. */
     FM8502_NO_WORDS = 1,              /* the memory has no words */
     FM8502_TOO_MANY_WORDS = 2,        /* the memory has more than 16,777,216 words */
     FM8502_LONG_WAIT_LIST = 3,        /* the wait list has more than 65,536 entries */
@@ -82,6 +82,7 @@ enum {
     FM8502_BAD_WORD_COUNT = 13,       /* the word count is 0 or above 16,777,216 */
     FM8502_SHORT_MEMORY = 14,         /* the memory is shorter than the word count */
     FM8502_TRAILING_BYTES = 15,       /* bytes follow the end field */
+    FM8502_BOTTOM_TOO_HIGH = 21,      /* the bottom exceeds the memory's length */
     FM8502_STOPPED = 100,             /* carried out: "outside", or "undone" for a file run */
     FM8502_HALTED = 101,              /* carried out: "no instruction"; fm8502_run alone */
     FM8502_MISFIT = 200               /* machine, state or result of another length than named */
@@ -90,6 +91,10 @@ enum {
 /* ---- Calls
  *
  * memory: 1 to FM8502_MOST_WORDS words (fm8502_image_read: any number).
+ * bottom: how many words at the front of memory hold the board's loader, at most
+ * memory_words. A store to one of them takes its clocks and waits and alters
+ * nothing; all else of the instruction is as ever. 0: every word can be stored to.
+ * The image calls know no bottom, and loading fills it too.
  * waits: at most FM8502_MOST_WAITS entries. Each access to memory takes the next
  * entry and waits so many clocks; after the last entry the list begins again. An
  * empty list (NULL, 0) means no waits.
@@ -103,25 +108,27 @@ enum {
  * not looked at). Memory and machine are then those before it.
  * The wait list is taken from its beginning.
  * result, 2 places: instructions that ran; their clock total, waits included.
- * Codes: 0, 1, 2, 3, 100, 101, 200.
+ * Codes: 0, 1, 2, 21, 3, 100, 101, 200.
  */
-uint32_t fm8502_run(uint32_t *memory, size_t memory_words, const uint16_t *waits,
+uint32_t fm8502_run(uint32_t *memory, size_t memory_words, uint32_t bottom, const uint16_t *waits,
                     size_t waits_entries, uint32_t *machine, size_t machine_words, uint32_t count,
                     uint64_t *result, size_t result_places);
 
 /*
  * Runs up to count instructions, at most FM8502_MOST_INSTRUCTIONS, without waits.
  * Store number i to memory puts address and former word at journal[2 * i] and
- * journal[2 * i + 1]; other places do not change. Where fm8502_run would
- * stop or halt, memory goes back to the start, machine is not written and the
- * journal keeps its pairs (FM8502_STOPPED: "undone").
+ * journal[2 * i + 1]; other places do not change. A store below bottom has no
+ * number and puts nothing. Where fm8502_run would stop or halt, memory goes back to
+ * the start, machine is not written and the journal keeps its pairs (FM8502_STOPPED:
+ * "undone").
  * journal: at least 2 * count places.
  * result, 2 places: instructions that ran, also if undone; pairs in the journal.
- * Codes: 0, 1, 2, 5, 6, 100, 200.
+ * Codes: 0, 1, 2, 21, 5, 6, 100, 200.
  */
-uint32_t fm8502_file_run(uint32_t *memory, size_t memory_words, uint32_t *journal,
-                         size_t journal_places, uint32_t *machine, size_t machine_words,
-                         uint32_t count, uint64_t *result, size_t result_places);
+uint32_t fm8502_file_run(uint32_t *memory, size_t memory_words, uint32_t bottom,
+                         uint32_t *journal, size_t journal_places, uint32_t *machine,
+                         size_t machine_words, uint32_t count, uint64_t *result,
+                         size_t result_places);
 
 /*
  * Does so many clocks of the gate machine. To start between instructions at the
@@ -130,16 +137,17 @@ uint32_t fm8502_file_run(uint32_t *memory, size_t memory_words, uint32_t *journa
  * A word that is no instruction is read with its wait; then the machine is in row
  * 12, where it stays, however many clocks follow.
  * result, 1 place: instructions finished in these clocks.
- * Codes: 0, 1, 2, 3, 4, 200.
+ * Codes: 0, 1, 2, 21, 3, 4, 200.
  */
-uint32_t fm8502_gate_run(uint32_t *memory, size_t memory_words, const uint16_t *waits,
-                         size_t waits_entries, uint32_t *state, size_t state_words,
-                         uint64_t clocks, uint64_t *result, size_t result_places);
+uint32_t fm8502_gate_run(uint32_t *memory, size_t memory_words, uint32_t bottom,
+                         const uint16_t *waits, size_t waits_entries, uint32_t *state,
+                         size_t state_words, uint64_t clocks, uint64_t *result,
+                         size_t result_places);
 
 /* As fm8502_gate_run with one clock. */
-uint32_t fm8502_clock(uint32_t *memory, size_t memory_words, const uint16_t *waits,
-                      size_t waits_entries, uint32_t *state, size_t state_words, uint64_t *result,
-                      size_t result_places);
+uint32_t fm8502_clock(uint32_t *memory, size_t memory_words, uint32_t bottom,
+                      const uint16_t *waits, size_t waits_entries, uint32_t *state,
+                      size_t state_words, uint64_t *result, size_t result_places);
 
 /*
  * Loads an image: its words to the front of memory, whose further words do not

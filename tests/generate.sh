@@ -36,7 +36,8 @@ made crates/crosscheck/stdout "$bin/crosscheck_cases" stdout
 made examples/stacking.image "$make_image" -w examples/stacking.words -m 48 -r 1=18 -r 4=4 -r 5=3 -r 6=F
 made examples/outside.image "$make_image" -w examples/outside.words -m 11 -r 1=8 -r 2=4 -r 3=4
 made examples/halted.image "$make_image" -w examples/halted.words -r 1=7 -r 2=3 -r 3=4
-for name in stacking outside halted; do
+made examples/loader.image "$make_image" -w examples/loader.words -r 1=11 -r 3=5 -r 4=8
+for name in stacking outside halted loader; do
     made "examples/$name.ledger" "$ledger" <"examples/$name.image"
 done
 

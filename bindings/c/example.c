@@ -1,6 +1,7 @@
 /*
- * Stacks the traces of an image under a wait list, rolls a file back, and runs into
- * a word that is no instruction.
+ * Stacks the traces of an image under a wait list, rolls a file back, runs into a
+ * word that is no instruction, and stores into a loader on a board that holds it,
+ * and on one that does not.
  * Usage: example FOLDER, the folder of the example images.
  */
 #include "fm8502.h"
@@ -15,7 +16,8 @@ enum {
     MOST_WAITS = 256,
     TRACE_COUNT = 0x0F,
     ACCUMULATORS = 0x10,
-    SAMPLES = 8
+    SAMPLES = 8,
+    LOADER_WORDS = 4 /* of loader.image; as many accumulators lie behind it */
 };
 
 /* A machine with its memory. */
@@ -23,6 +25,7 @@ typedef struct {
     uint32_t machine[FM8502_MACHINE_SIZE];
     uint32_t memory[MEMORY_WORDS];
     size_t words;
+    uint32_t bottom;
 } Card;
 
 static FILE *open_file(const char *folder, const char *name, const char *mode) {
@@ -56,6 +59,7 @@ static Card load(const char *folder, const char *name) {
                              FM8502_MACHINE_SIZE, &words, 1),
            FM8502_DONE);
     card.words = (size_t)words;
+    card.bottom = 0;
     printf("%s: %zu words\n", name, card.words);
     return card;
 }
@@ -74,16 +78,22 @@ static void print_words(const char *name, const uint32_t *words, size_t count) {
     printf("\n");
 }
 
+/* The word for a run's code. */
+static const char *ending(uint32_t code) {
+    if (code == FM8502_STOPPED) return "outside";
+    return code == FM8502_HALTED ? "no instruction" : "finished";
+}
+
 /* Runs the card, to the ending that is expected; returns the clock total. */
-static uint64_t run(Card *card, const uint16_t *waits, size_t entries, uint32_t expected,
-                    const char *ending) {
+static uint64_t run(const char *name, Card *card, const uint16_t *waits, size_t entries,
+                    uint32_t expected) {
     uint64_t result[2];
-    expect("run",
-           fm8502_run(card->memory, card->words, waits, entries, card->machine,
+    expect(name,
+           fm8502_run(card->memory, card->words, card->bottom, waits, entries, card->machine,
                       FM8502_MACHINE_SIZE, INSTRUCTIONS, result, 2),
            expected);
-    printf("run: %s, %llu instructions, %llu clocks\n", ending, (unsigned long long)result[0],
-           (unsigned long long)result[1]);
+    printf("%s: %s, %llu instructions, %llu clocks\n", name, ending(expected),
+           (unsigned long long)result[0], (unsigned long long)result[1]);
     return result[1];
 }
 
@@ -92,16 +102,29 @@ static void run_gates(Card *card, const uint16_t *waits, size_t entries, uint64_
     memcpy(state, card->machine, sizeof card->machine);
     uint64_t finished;
     expect("gate run",
-           fm8502_gate_run(card->memory, card->words, waits, entries, state, FM8502_STATE_SIZE,
-                           clocks, &finished, 1),
+           fm8502_gate_run(card->memory, card->words, card->bottom, waits, entries, state,
+                           FM8502_STATE_SIZE, clocks, &finished, 1),
            FM8502_DONE);
     printf("gate machine: %llu instructions, row %u\n", (unsigned long long)finished,
            (unsigned)state[FM8502_ROW]);
 }
 
+/* As run, but as a file, with a journal of 2 * INSTRUCTIONS places; returns its pairs. */
+static size_t run_file(Card *card, uint32_t *journal, uint32_t expected) {
+    uint64_t result[2];
+    expect("file run",
+           fm8502_file_run(card->memory, card->words, card->bottom, journal, 2 * INSTRUCTIONS,
+                           card->machine, FM8502_MACHINE_SIZE, INSTRUCTIONS, result, 2),
+           expected);
+    printf("file run: %s, %llu instructions, %llu pairs\n",
+           expected == FM8502_STOPPED ? "undone" : "finished", (unsigned long long)result[0],
+           (unsigned long long)result[1]);
+    return (size_t)result[1];
+}
+
 static void stack(Card *card, const uint16_t *waits, size_t entries) {
     Card copy = *card;
-    uint64_t clocks = run(card, waits, entries, FM8502_DONE, "finished");
+    uint64_t clocks = run("run", card, waits, entries, FM8502_DONE);
     const uint32_t *flags = card->machine + FM8502_CARRY;
     printf("flags %u%u%u%u\n", (unsigned)flags[0], (unsigned)flags[1], (unsigned)flags[2],
            (unsigned)flags[3]);
@@ -114,31 +137,56 @@ static void stack(Card *card, const uint16_t *waits, size_t entries) {
 static void roll_back(Card *card) {
     Card former = *card;
     uint32_t journal[2 * INSTRUCTIONS] = {0};
-    uint64_t result[2];
-
-    expect("file run",
-           fm8502_file_run(card->memory, card->words, journal, 2 * INSTRUCTIONS, card->machine,
-                           FM8502_MACHINE_SIZE, INSTRUCTIONS, result, 2),
-           FM8502_STOPPED);
-    printf("file run: undone, %llu instructions, %llu pairs\n", (unsigned long long)result[0],
-           (unsigned long long)result[1]);
-    print_words("journal", journal, 2 * (size_t)result[1]);
+    size_t pairs = run_file(card, journal, FM8502_STOPPED);
+    print_words("journal", journal, 2 * pairs);
     int same = !memcmp(card->memory, former.memory, 4 * card->words) &&
                !memcmp(card->machine, former.machine, sizeof former.machine);
     printf("memory and machine as before: %s\n", same ? "yes" : "no");
 
-    uint32_t code = fm8502_file_run(card->memory, card->words, journal, 9, card->machine,
-                                    FM8502_MACHINE_SIZE, INSTRUCTIONS, result, 2);
+    uint64_t result[2];
+    uint32_t code = fm8502_file_run(card->memory, card->words, card->bottom, journal, 9,
+                                    card->machine, FM8502_MACHINE_SIZE, INSTRUCTIONS, result, 2);
     expect("file run", code, FM8502_SHORT_JOURNAL);
     printf("short journal: refused %u\n", (unsigned)code);
 }
 
 static void halt(Card *card, const uint16_t *waits, size_t entries) {
     Card copy = *card;
-    run(card, waits, entries, FM8502_HALTED, "no instruction");
+    run("run", card, waits, entries, FM8502_HALTED);
     uint32_t pc = card->machine[FM8502_R0], next[2] = {pc, card->memory[pc]};
     print_words("next", next, 2);
     run_gates(&copy, waits, entries, UINT64_MAX);
+}
+
+/* Both engines and a file run, each from the start; then a run on the memory that was left. */
+static void run_on_board(const Card *start, uint32_t bottom, const uint16_t *waits,
+                         size_t entries) {
+    Card card = *start;
+    card.bottom = bottom;
+    Card gates = card, file = card;
+    uint32_t journal[2 * INSTRUCTIONS];
+
+    printf("bottom %u\n", (unsigned)bottom);
+    uint64_t clocks = run("run", &card, waits, entries, FM8502_DONE);
+    print_words("loader", card.memory, LOADER_WORDS);
+    print_words("accumulators", card.memory + LOADER_WORDS, LOADER_WORDS);
+    run_gates(&gates, waits, entries, clocks);
+    run_file(&file, journal, FM8502_DONE);
+    /* A loader that was stored over leads outside. */
+    memcpy(card.machine, start->machine, sizeof card.machine);
+    run("again", &card, waits, entries, bottom ? FM8502_DONE : FM8502_STOPPED);
+}
+
+static void store_into_loader(Card *card, const uint16_t *waits, size_t entries) {
+    run_on_board(card, LOADER_WORDS, waits, entries);
+    run_on_board(card, 0, waits, entries);
+
+    uint64_t result[2];
+    uint32_t past = (uint32_t)card->words + 1;
+    uint32_t code = fm8502_run(card->memory, card->words, past, waits, entries, card->machine,
+                               FM8502_MACHINE_SIZE, INSTRUCTIONS, result, 2);
+    expect("run", code, FM8502_BOTTOM_TOO_HIGH);
+    printf("bottom %u: refused %u\n", (unsigned)past, (unsigned)code);
 }
 
 int main(int count, char **arguments) {
@@ -151,5 +199,7 @@ int main(int count, char **arguments) {
     roll_back(&outside);
     Card halted = load(folder, "halted.image");
     halt(&halted, waits, entries);
+    Card loader = load(folder, "loader.image");
+    store_into_loader(&loader, waits, entries);
     return 0;
 }

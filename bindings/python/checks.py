@@ -1,9 +1,10 @@
-"""What the module refuses, how a wait list goes on, what a halting word does, and that arrays
-are lent without a copy.
+"""What the module refuses, how a wait list goes on, what a halting word does, what the bottom
+keeps, and that arrays are lent without a copy.
 
 numpy is looked at where it is installed.
 """
 
+import copy
 import ctypes
 from array import array
 
@@ -16,11 +17,13 @@ except ImportError:
 
 # inc r1, then dec r1 and set Z
 PROGRAM = (0x00010021, 0x00050421)
+# inc (r2),(r2): 11 clocks, and its four accesses wait 2, 3, 2, 3
+STORING = (0x0001014A, 0, 0, 41)
 
 
-def refuses(error, words, call, *arguments):
+def refuses(error, words, call, *arguments, **named):
     try:
-        call(*arguments)
+        call(*arguments, **named)
     except error as raised:
         assert words in str(raised), raised
     else:
@@ -105,6 +108,50 @@ def check_halted():
     assert not ran.finished and not ran.halted
 
 
+def storing_runs(word=3):
+    """Each run with a memory of STORING and what else it is lent, to store to a word of it."""
+    machine = fm8502.Machine(registers=[0, 0, word, 0, 0, 0, 0, 0])
+    waits, journal = array("H", [2, 3]), array("I", [7, 7])
+    at_store = fm8502.GateState(row=9, address=word, result=42, begun=True, left=1)
+    for call, lent in (
+        (fm8502.run, (waits, machine, 1)),
+        (fm8502.file_run, (journal, machine, 1)),
+        (fm8502.gate_run, (waits, fm8502.GateState(machine), 21)),
+        (fm8502.clock, (waits, at_store)),
+    ):
+        yield call, array("I", STORING), copy.deepcopy(lent)
+
+
+def check_bottom():
+    """Every run takes a bottom by name, at most the memory's length, and 0 by default."""
+    for word, named, stores in (
+        (0, {}, True),
+        (0, {"bottom": 1}, False),
+        (3, {"bottom": 3}, True),
+        (3, {"bottom": 4}, False),
+    ):
+        for call, memory, lent in storing_runs(word):
+            call(memory, *lent, **named)
+            assert (memory[word] != STORING[word]) == stores, (call.__name__, word, named)
+    reason = "refused 21: the bottom exceeds the memory's length"
+    for call, memory, lent in storing_runs():
+        for bottom in (-1, 1 << 32):
+            refuses(ValueError, "a count of 32 bits", call, memory, *lent, bottom=bottom)
+        for bottom in (5, (1 << 32) - 1):
+            refuses(fm8502.Refused, reason, call, memory, *lent, bottom=bottom)
+        refuses(TypeError, "positional argument", call, memory, *lent, 4)
+        assert tuple(memory) == STORING, call.__name__
+
+
+def check_below_bottom():
+    """A store below the bottom costs what another does, and takes no pair of the journal."""
+    lent = {call: (memory, *others) for call, memory, others in storing_runs()}
+    assert fm8502.run(*lent[fm8502.run], bottom=4) == fm8502.Run(True, False, ran=1, clocks=21)
+    assert fm8502.gate_run(*lent[fm8502.gate_run], bottom=4) == 1
+    assert fm8502.file_run(*lent[fm8502.file_run], bottom=4) == fm8502.FileRun(True, 1, pairs=0)
+    assert lent[fm8502.file_run][1].tolist() == [7, 7]
+
+
 def check_numpy():
     """What is lent is the array itself, also a wait list and a part of an array."""
     words = numpy.array([*PROGRAM, 0, 0], dtype=numpy.uint32)
@@ -112,8 +159,7 @@ def check_numpy():
         assert ctypes.addressof(lend(ctypes.c_uint32, words[1:])) == words[1:].ctypes.data
     waits = numpy.array([2, 3], dtype=numpy.uint16)
     assert ctypes.addressof(fm8502._shown(ctypes.c_uint16, waits)) == waits.ctypes.data
-    # inc (r2),(r2), in place: 11 clocks, and its four accesses wait 2, 3, 2, 3
-    memory = numpy.array([0x0001014A, 0, 0, 41], dtype=numpy.uint32)
+    memory = numpy.array(STORING, dtype=numpy.uint32)
     machine = fm8502.Machine(registers=[0, 0, 3, 0, 0, 0, 0, 0])
     assert fm8502.run(memory, waits, machine, 1).clocks == 21 and memory[3] == 42
     for shape, error in (
@@ -133,6 +179,8 @@ check_shapes()
 check_undone()
 check_wait_list()
 check_halted()
+check_bottom()
+check_below_bottom()
 if numpy is not None:
     check_numpy()
 print("python: checked", "with numpy" if numpy is not None else "without numpy")

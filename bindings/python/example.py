@@ -1,5 +1,5 @@
-"""Stacks the traces of an image under a wait list, rolls a file back, and runs into a word
-that is no instruction.
+"""Stacks the traces of an image under a wait list, rolls a file back, runs into a word that is
+no instruction, and stores into a loader on a board that holds it, and on one that does not.
 
 Usage: example.py FOLDER, the folder of the example images.
 """
@@ -14,6 +14,8 @@ import fm8502
 INSTRUCTIONS = 90
 TRACE_COUNT = 0x0F
 ACCUMULATORS = slice(0x10, 0x18)
+# of loader.image; as many accumulators lie behind it
+LOADER_WORDS = 4
 
 
 def words(values):
@@ -26,17 +28,25 @@ def load(folder, name):
     return memory, machine
 
 
-def run(memory, waits, machine):
-    ran = fm8502.run(memory, waits, machine, INSTRUCTIONS)
+def run(memory, waits, machine, bottom=0, name="run"):
+    ran = fm8502.run(memory, waits, machine, INSTRUCTIONS, bottom=bottom)
     ending = "finished" if ran.finished else "no instruction" if ran.halted else "outside"
-    print(f"run: {ending}, {ran.ran} instructions, {ran.clocks} clocks")
+    print(f"{name}: {ending}, {ran.ran} instructions, {ran.clocks} clocks")
     return ran
 
 
-def run_gates(memory, waits, machine, clocks):
+def run_gates(memory, waits, machine, clocks, bottom=0):
     state = fm8502.GateState(machine)
-    finished = fm8502.gate_run(memory, waits, state, clocks)
+    finished = fm8502.gate_run(memory, waits, state, clocks, bottom=bottom)
     print(f"gate machine: {finished} instructions, row {state.row}")
+
+
+def run_file(memory, machine, bottom=0):
+    journal = array("I", bytes(4 * 2 * INSTRUCTIONS))
+    ran = fm8502.file_run(memory, journal, machine, INSTRUCTIONS, bottom=bottom)
+    ending = "finished" if ran.finished else "undone"
+    print(f"file run: {ending}, {ran.ran} instructions, {ran.pairs} pairs")
+    return ran, journal
 
 
 def stack(memory, waits, machine):
@@ -51,10 +61,7 @@ def stack(memory, waits, machine):
 
 def roll_back(memory, machine):
     former = memory[:], copy.deepcopy(machine)
-    journal = array("I", bytes(4 * 2 * INSTRUCTIONS))
-    ran = fm8502.file_run(memory, journal, machine, INSTRUCTIONS)
-    ending = "finished" if ran.finished else "undone"
-    print(f"file run: {ending}, {ran.ran} instructions, {ran.pairs} pairs")
+    ran, journal = run_file(memory, machine)
     print("journal" + words(journal[: 2 * ran.pairs]))
     same = (memory, machine) == former
     print("memory and machine as before:", "yes" if same else "no")
@@ -72,6 +79,28 @@ def halt(memory, waits, machine):
     run_gates(*start, (1 << 64) - 1)
 
 
+def run_on_board(memory, waits, machine, bottom):
+    """Both engines and a file run, each from the start; then a run on the memory that was left."""
+    print("bottom", bottom)
+    left = memory[:]
+    ran = run(left, waits, copy.deepcopy(machine), bottom)
+    print("loader" + words(left[:LOADER_WORDS]))
+    print("accumulators" + words(left[LOADER_WORDS : 2 * LOADER_WORDS]))
+    run_gates(memory[:], waits, copy.deepcopy(machine), ran.clocks, bottom)
+    run_file(memory[:], copy.deepcopy(machine), bottom)
+    run(left, waits, copy.deepcopy(machine), bottom, name="again")
+
+
+def store_into_loader(memory, waits, machine):
+    for bottom in (LOADER_WORDS, 0):
+        run_on_board(memory, waits, machine, bottom)
+    past = len(memory) + 1
+    try:
+        run(memory, waits, machine, past)
+    except fm8502.Refused as refused:
+        print(f"bottom {past}: refused", refused.number)
+
+
 def main():
     folder = Path(sys.argv[1] if len(sys.argv) > 1 else "examples")
     waits = array("H", map(int, (folder / "stacking.waits").read_text().split()))
@@ -81,6 +110,8 @@ def main():
     roll_back(memory, machine)
     memory, machine = load(folder, "halted.image")
     halt(memory, waits, machine)
+    memory, machine = load(folder, "loader.image")
+    store_into_loader(memory, waits, machine)
 
 
 main()

@@ -3,7 +3,12 @@
 Memory and journal are lent as array('I') or a numpy array of uint32, wait lists
 as array('H') or of uint16, images as bytes. What can be written is lent without a
 copy; no two arrays of a call may share places. A call that is turned down raises
-Refused with the paper's number and leaves everything it was lent as it was.
+Refused with the papers' number and leaves everything it was lent as it was.
+
+Every run takes the memory's bottom by name: how many words at its front hold the
+board's loader, at most its length. A store to one of them takes its clocks and
+waits and alters nothing, and the journal does not note it. By default it is 0, and
+every word can be stored to.
 """
 
 import ctypes
@@ -18,35 +23,36 @@ _STOPPED = 100
 _HALTED = 101
 _MISFIT = 200
 
-# The paper's reasons to turn a call down, number 1 first.
-_REASONS = (
-    "the memory has no words",
-    "the memory has more than 16,777,216 words",
-    "the wait list has more than 65,536 entries",
-    "the gate state has a bad row, list position or access",
-    "the file run wants more than 65,536 instructions",
-    "the journal has fewer than two places for each instruction",
-    "the output is shorter than the image",
-    "the image ends inside a field or before its end field",
-    "a tag is not the one due",
-    "a length is not the one due",
-    "the version is not 1",
-    "a flag byte exceeds 1",
-    "the word count is 0 or above 16,777,216",
-    "the memory is shorter than the word count",
-    "bytes follow the end field",
-)
+# The papers' reasons to turn a call down, by number.
+_REASONS = {
+    1: "the memory has no words",
+    2: "the memory has more than 16,777,216 words",
+    3: "the wait list has more than 65,536 entries",
+    4: "the gate state has a bad row, list position or access",
+    5: "the file run wants more than 65,536 instructions",
+    6: "the journal has fewer than two places for each instruction",
+    7: "the output is shorter than the image",
+    8: "the image ends inside a field or before its end field",
+    9: "a tag is not the one due",
+    10: "a length is not the one due",
+    11: "the version is not 1",
+    12: "a flag byte exceeds 1",
+    13: "the word count is 0 or above 16,777,216",
+    14: "the memory is shorter than the word count",
+    15: "bytes follow the end field",
+    21: "the bottom exceeds the memory's length",
+}
 
 
 class Refused(Exception):
-    """A call was turned down; `number` is the paper's, 1 to 15."""
+    """A call was turned down; `number` is the papers'."""
 
     def __init__(self, number):
         super().__init__(number)
         self.number = number
 
     def __str__(self):
-        return f"refused {self.number}: {_REASONS[self.number - 1]}"
+        return f"refused {self.number}: {_REASONS[self.number]}"
 
 
 @dataclass
@@ -192,6 +198,12 @@ def _count(number, bits):
     return c_uint32(number) if bits == 32 else c_uint64(number)
 
 
+def _board(memory, bottom, beside):
+    """Arguments of a run: memory, its bottom, and the array that is lent beside it."""
+    memory, words, *beside = _apart(_lent(c_uint32, memory), beside)
+    return [memory, words, _count(bottom, 32), *beside]
+
+
 def _changing(name, lent, state, middle, places):
     """A call that changes a machine or state in place; its code and result."""
     former = state._words()
@@ -204,36 +216,36 @@ def _changing(name, lent, state, middle, places):
     return code, result
 
 
-def run(memory, waits, machine, count):
+def run(memory, waits, machine, count, *, bottom=0):
     """Runs up to count instructions with the wait list, from its beginning.
 
     Each access to memory takes the next entry and waits so many clocks; after the
     last entry the list begins again, and an empty list means no waits.
     """
-    lent = _apart(_lent(c_uint32, memory), _shown(c_uint16, waits))
+    lent = _board(memory, bottom, _shown(c_uint16, waits))
     code, result = _changing("run", lent, machine, [_count(count, 32)], 2)
     return Run(finished=code == _DONE, halted=code == _HALTED, ran=result[0], clocks=result[1])
 
 
-def file_run(memory, journal, machine, count):
+def file_run(memory, journal, machine, count, *, bottom=0):
     """Runs up to count instructions; a run that stops before the end is taken back whole."""
-    lent = _apart(_lent(c_uint32, memory), _lent(c_uint32, journal))
+    lent = _board(memory, bottom, _lent(c_uint32, journal))
     code, result = _changing("file_run", lent, machine, [_count(count, 32)], 2)
     return FileRun(finished=code == _DONE, ran=result[0], pairs=result[1])
 
 
-def gate_run(memory, waits, state, clocks):
+def gate_run(memory, waits, state, clocks, *, bottom=0):
     """Does so many clocks of the gate machine; returns the instructions finished.
 
     The wait list is as for run, but goes on from the state's position.
     """
-    lent = _apart(_lent(c_uint32, memory), _shown(c_uint16, waits))
+    lent = _board(memory, bottom, _shown(c_uint16, waits))
     return _changing("gate_run", lent, state, [_count(clocks, 64)], 1)[1][0]
 
 
-def clock(memory, waits, state):
+def clock(memory, waits, state, *, bottom=0):
     """Does one clock; returns whether an instruction finished."""
-    lent = _apart(_lent(c_uint32, memory), _shown(c_uint16, waits))
+    lent = _board(memory, bottom, _shown(c_uint16, waits))
     return bool(_changing("clock", lent, state, [], 1)[1][0])
 
 

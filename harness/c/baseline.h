@@ -12,13 +12,15 @@
 // Called once in each loop, where a call would cost more than the work.
 #define INLINE static inline __attribute__((always_inline))
 
-uint32_t baseline_run(uint32_t *memory, size_t memory_words, const uint16_t *waits,
-                      size_t waits_entries, uint32_t *machine, uint32_t count, uint64_t *result);
-uint32_t baseline_file_run(uint32_t *memory, size_t memory_words, uint32_t *journal,
-                           uint32_t *machine, uint32_t count, uint64_t *result);
-uint32_t baseline_gate_run(uint32_t *memory, size_t memory_words, const uint16_t *waits,
-                           size_t waits_entries, uint32_t *state, uint64_t clocks,
+uint32_t baseline_run(uint32_t *memory, size_t memory_words, uint32_t bottom,
+                      const uint16_t *waits, size_t waits_entries, uint32_t *machine,
+                      uint32_t count, uint64_t *result);
+uint32_t baseline_file_run(uint32_t *memory, size_t memory_words, uint32_t bottom,
+                           uint32_t *journal, uint32_t *machine, uint32_t count,
                            uint64_t *result);
+uint32_t baseline_gate_run(uint32_t *memory, size_t memory_words, uint32_t bottom,
+                           const uint16_t *waits, size_t waits_entries, uint32_t *state,
+                           uint64_t clocks, uint64_t *result);
 uint32_t baseline_image_read(const uint8_t *bytes, size_t length, uint32_t *memory,
                              uint32_t *machine, uint64_t *result);
 uint32_t baseline_image_write(const uint32_t *memory, size_t memory_words,

@@ -65,7 +65,8 @@ INLINE void step_up(State *s, uint32_t field) {
 }
 
 // One clock; whether an instruction finished.
-INLINE bool tick(State *s, uint32_t *memory, size_t words, const uint16_t *waits, size_t entries) {
+INLINE bool tick(State *s, uint32_t *memory, size_t words, uint32_t bottom, const uint16_t *waits,
+                 size_t entries) {
     uint32_t row = s->row, next = NEXT[row], i = s->instruction, word;
     if (IS_ACCESS[row] && !access_completes(s, words, waits, entries)) return false;
     switch (row) {
@@ -93,7 +94,9 @@ INLINE bool tick(State *s, uint32_t *memory, size_t words, const uint16_t *waits
     case 6: s->b = memory[s->address]; break;
     case 7: next = compute(s); break;
     case 8: s->registers[i >> 5 & 7] = s->result; break;
-    case 9: memory[s->address] = s->result; break;
+    case 9:
+        if (s->address >= bottom) memory[s->address] = s->result;
+        break;
     case 10: step_up(s, i); break;
     case 11: step_up(s, i >> 5); break;
     default: break;
@@ -137,13 +140,13 @@ INLINE void give(const State *s, uint32_t *w) {
     w[FM8502_LEFT] = s->left;
 }
 
-uint32_t baseline_gate_run(uint32_t *memory, size_t memory_words, const uint16_t *waits,
-                           size_t waits_entries, uint32_t *state, uint64_t clocks,
-                           uint64_t *result) {
+uint32_t baseline_gate_run(uint32_t *memory, size_t memory_words, uint32_t bottom,
+                           const uint16_t *waits, size_t waits_entries, uint32_t *state,
+                           uint64_t clocks, uint64_t *result) {
     State s = state_of(state);
     uint64_t finished = 0;
     for (uint64_t k = 0; k < clocks; k++)
-        finished += tick(&s, memory, memory_words, waits, waits_entries);
+        finished += tick(&s, memory, memory_words, bottom, waits, waits_entries);
     give(&s, state);
     result[0] = finished;
     return FM8502_DONE;

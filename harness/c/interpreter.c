@@ -13,6 +13,7 @@ typedef struct {
     uint32_t carry, overflow, negative, zero;
     uint32_t *memory;
     size_t words;
+    uint32_t bottom; // no store alters a word below it
     const uint16_t *waits;
     size_t entries, position;
     uint32_t *journal; // null: no journal
@@ -111,13 +112,17 @@ INLINE uint32_t compute(Engine *e, uint32_t word, uint32_t a, uint32_t b, bool *
     return r.word;
 }
 
-// Returns the wait.
-INLINE uint32_t store_word(Engine *e, uint32_t address, uint32_t former, uint32_t word) {
+INLINE void alter(Engine *e, uint32_t address, uint32_t former, uint32_t word) {
     if (e->journal) {
         e->journal[e->filled++] = address;
         e->journal[e->filled++] = former;
     }
     e->memory[address] = word;
+}
+
+// Returns the wait.
+INLINE uint32_t store_word(Engine *e, uint32_t address, uint32_t former, uint32_t word) {
+    if (address >= e->bottom) alter(e, address, former, word);
     return next_wait(e);
 }
 
@@ -191,18 +196,20 @@ INLINE uint32_t plain_run(Engine e, uint32_t *machine, uint32_t count, uint64_t 
     return code;
 }
 
-uint32_t baseline_run(uint32_t *memory, size_t memory_words, const uint16_t *waits,
-                      size_t waits_entries, uint32_t *machine, uint32_t count, uint64_t *result) {
-    Engine e = {.memory = memory, .words = memory_words};
+uint32_t baseline_run(uint32_t *memory, size_t memory_words, uint32_t bottom,
+                      const uint16_t *waits, size_t waits_entries, uint32_t *machine,
+                      uint32_t count, uint64_t *result) {
+    Engine e = {.memory = memory, .words = memory_words, .bottom = bottom};
     if (waits_entries == 0) return plain_run(e, machine, count, result);
     e.waits = waits;
     e.entries = waits_entries;
     return plain_run(e, machine, count, result);
 }
 
-uint32_t baseline_file_run(uint32_t *memory, size_t memory_words, uint32_t *journal,
-                           uint32_t *machine, uint32_t count, uint64_t *result) {
-    Engine e = {.memory = memory, .words = memory_words, .journal = journal};
+uint32_t baseline_file_run(uint32_t *memory, size_t memory_words, uint32_t bottom,
+                           uint32_t *journal, uint32_t *machine, uint32_t count,
+                           uint64_t *result) {
+    Engine e = {.memory = memory, .words = memory_words, .bottom = bottom, .journal = journal};
     Registers g;
     uint32_t code = go(&e, &g, machine, count, &result[0]);
     result[1] = e.filled / 2;

@@ -2,24 +2,40 @@
 
 use crate::text::hex_words;
 use reference::{file_run, gate_run, image, run};
-use reference::{Answer, FileAnswer, GateResult, GateState, Machine, RunResult, Stop};
+use reference::{Answer, FileAnswer, FileResult, GateResult, GateState, Machine, RunResult, Stop};
+use std::ops::Range;
 
 /// Enough for all traces; the last ones wait at the program's end.
 const INSTRUCTIONS: u32 = 90;
 const TRACE_COUNT: usize = 0x0F;
-const ACCUMULATORS: std::ops::Range<usize> = 0x10..0x18;
+const ACCUMULATORS: Range<usize> = 0x10..0x18;
 
-/// The text for the three images and the wait list.
-pub fn text(stacking: &[u8], waits: &[u16], outside: &[u8], halted: &[u8]) -> String {
-    let (memory, machine) = load(stacking);
+/// In the memory of the image with a loader: the loader, and its accumulators.
+const LOADER: Range<usize> = 0..4;
+const LOADED_ACCUMULATORS: Range<usize> = 4..8;
+
+/// The images of the examples.
+pub struct Images {
+    pub stacking: Vec<u8>,
+    pub outside: Vec<u8>,
+    pub halted: Vec<u8>,
+    pub loader: Vec<u8>,
+}
+
+/// The text for the images and the wait list.
+pub fn text(images: &Images, waits: &[u16]) -> String {
+    let (memory, machine) = load(&images.stacking);
     let mut text = format!("stacking.image: {} words\n", memory.len());
     text += &stacked(memory, waits, machine);
-    let (memory, machine) = load(outside);
+    let (memory, machine) = load(&images.outside);
     text += &format!("outside.image: {} words\n", memory.len());
     text += &rolled_back(memory, machine);
-    let (memory, machine) = load(halted);
+    let (memory, machine) = load(&images.halted);
     text += &format!("halted.image: {} words\n", memory.len());
-    text + &comes_to_halt(memory, waits, machine)
+    text += &comes_to_halt(memory, waits, machine);
+    let (memory, machine) = load(&images.loader);
+    text += &format!("loader.image: {} words\n", memory.len());
+    text + &holds_a_loader(&memory, waits, machine)
 }
 
 fn load(bytes: &[u8]) -> (Vec<u32>, Machine) {
@@ -32,12 +48,12 @@ fn load(bytes: &[u8]) -> (Vec<u32>, Machine) {
 
 fn stacked(mut memory: Vec<u32>, waits: &[u16], start: Machine) -> String {
     let mut copy = memory.clone();
-    let result = run(&mut memory, waits, start, INSTRUCTIONS);
+    let result = run(&mut memory, 0, waits, start, INSTRUCTIONS);
     assert_eq!(result.answer, Answer::Finished);
-    let gates = gate_run(&mut copy, waits, GateState::start(start), result.clocks);
+    let gates = gate_run(&mut copy, 0, waits, GateState::start(start), result.clocks);
     assert_eq!(copy, memory, "both engines leave the same memory");
     lines([
-        run_line("finished", &result),
+        run_line("run", &result),
         format!("flags {}", result.machine.flags.digits()),
         format!("registers{}", hex_words(&result.machine.registers)),
         format!("traces {}", memory[TRACE_COUNT]),
@@ -46,9 +62,25 @@ fn stacked(mut memory: Vec<u32>, waits: &[u16], start: Machine) -> String {
     ])
 }
 
-fn run_line(ending: &str, result: &RunResult) -> String {
+fn run_line(name: &str, result: &RunResult) -> String {
     let RunResult { ran, clocks, .. } = result;
-    format!("run: {ending}, {ran} instructions, {clocks} clocks")
+    let ending = match result.answer {
+        Answer::Finished => "finished",
+        Answer::Stopped(Stop::Outside) => "outside",
+        Answer::Stopped(Stop::NoInstruction) => "no instruction",
+        Answer::Refused(refusal) => panic!("refused with {refusal}"),
+    };
+    format!("{name}: {ending}, {ran} instructions, {clocks} clocks")
+}
+
+fn file_line(result: &FileResult) -> String {
+    let FileResult { ran, pairs, .. } = result;
+    let ending = match result.answer {
+        FileAnswer::Finished => "finished",
+        FileAnswer::Undone => "undone",
+        FileAnswer::Refused(refusal) => panic!("refused with {refusal}"),
+    };
+    format!("file run: {ending}, {ran} instructions, {pairs} pairs")
 }
 
 fn gate_line(result: &GateResult) -> String {
@@ -65,19 +97,16 @@ fn lines<const N: usize>(lines: [String; N]) -> String {
 fn rolled_back(mut memory: Vec<u32>, start: Machine) -> String {
     let former = memory.clone();
     let mut journal = vec![0; 2 * INSTRUCTIONS as usize];
-    let result = file_run(&mut memory, &mut journal, start, INSTRUCTIONS);
+    let result = file_run(&mut memory, 0, &mut journal, start, INSTRUCTIONS);
     assert_eq!(result.answer, FileAnswer::Undone);
     assert!(memory == former && result.machine == start);
     let filled = hex_words(&journal[..2 * result.pairs as usize]);
-    let short = file_run(&mut memory, &mut journal[..9], start, INSTRUCTIONS);
+    let short = file_run(&mut memory, 0, &mut journal[..9], start, INSTRUCTIONS);
     let FileAnswer::Refused(refusal) = short.answer else {
         panic!("a short journal is refused");
     };
     lines([
-        format!(
-            "file run: undone, {} instructions, {} pairs",
-            result.ran, result.pairs
-        ),
+        file_line(&result),
         format!("journal{filled}"),
         "memory and machine as before: yes".into(),
         format!("short journal: refused {refusal}"),
@@ -86,14 +115,47 @@ fn rolled_back(mut memory: Vec<u32>, start: Machine) -> String {
 
 fn comes_to_halt(mut memory: Vec<u32>, waits: &[u16], start: Machine) -> String {
     let mut copy = memory.clone();
-    let result = run(&mut memory, waits, start, INSTRUCTIONS);
+    let result = run(&mut memory, 0, waits, start, INSTRUCTIONS);
     assert_eq!(result.answer, Answer::Stopped(Stop::NoInstruction));
-    let gates = gate_run(&mut copy, waits, GateState::start(start), u64::MAX);
+    let gates = gate_run(&mut copy, 0, waits, GateState::start(start), u64::MAX);
     assert_eq!(copy, memory, "both engines leave the same memory");
     let pc = result.machine.registers[0];
     lines([
-        run_line("no instruction", &result),
+        run_line("run", &result),
         format!("next{}", hex_words(&[pc, memory[pc as usize]])),
         gate_line(&gates),
+    ])
+}
+
+/// With its loader fixed, with no word fixed, and with one word more than there are.
+fn holds_a_loader(memory: &[u32], waits: &[u16], start: Machine) -> String {
+    let past = memory.len() as u32 + 1;
+    let refused = run(&mut memory.to_vec(), past, waits, start, INSTRUCTIONS);
+    let Answer::Refused(refusal) = refused.answer else {
+        panic!("a bottom past the memory is refused");
+    };
+    let bottoms = [LOADER.end as u32, 0];
+    let text = bottoms.map(|bottom| above_bottom(memory, bottom, waits, start));
+    text.concat() + &format!("bottom {past}: refused {refusal}\n")
+}
+
+fn above_bottom(memory: &[u32], bottom: u32, waits: &[u16], start: Machine) -> String {
+    let [mut left, mut copy, mut filed] = [(); 3].map(|()| memory.to_vec());
+    let result = run(&mut left, bottom, waits, start, INSTRUCTIONS);
+    let state = GateState::start(start);
+    let gates = gate_run(&mut copy, bottom, waits, state, result.clocks);
+    assert_eq!(copy, left, "both engines leave the same memory");
+    let mut journal = vec![0; 2 * INSTRUCTIONS as usize];
+    let file = file_run(&mut filed, bottom, &mut journal, start, INSTRUCTIONS);
+    let words = [&left[LOADER], &left[LOADED_ACCUMULATORS]].map(hex_words);
+    let again = run(&mut left, bottom, waits, start, INSTRUCTIONS);
+    lines([
+        format!("bottom {bottom}"),
+        run_line("run", &result),
+        format!("loader{}", words[0]),
+        format!("accumulators{}", words[1]),
+        gate_line(&gates),
+        file_line(&file),
+        run_line("again", &again),
     ])
 }

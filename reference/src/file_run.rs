@@ -2,7 +2,7 @@
 
 use crate::interpreter::step;
 use crate::machine::Machine;
-use crate::refusal::{check_memory, Refusal};
+use crate::refusal::{check_memory_and_bottom, Refusal};
 
 /// The most instructions of one file.
 pub const MOST_INSTRUCTIONS: u32 = 65_536;
@@ -26,20 +26,27 @@ pub struct FileResult {
     pub pairs: u32,
 }
 
-/// Runs `count` instructions and journals every store to memory.
-pub fn file_run(memory: &mut [u32], journal: &mut [u32], start: Machine, count: u32) -> FileResult {
+/// Runs `count` instructions and journals every store to memory that is not below
+/// `bottom` (CR 6).
+pub fn file_run(
+    memory: &mut [u32],
+    bottom: u32,
+    journal: &mut [u32],
+    start: Machine,
+    count: u32,
+) -> FileResult {
     let mut result = FileResult {
         answer: FileAnswer::Finished,
         machine: start,
         ran: 0,
         pairs: 0,
     };
-    if let Err(refusal) = check(memory.len(), journal.len(), count) {
+    if let Err(refusal) = check(memory.len(), bottom, journal.len(), count) {
         result.answer = FileAnswer::Refused(refusal);
         return result;
     }
     while result.ran < count {
-        let Ok(step) = step(memory, &mut result.machine) else {
+        let Ok(step) = step(memory, bottom, &mut result.machine) else {
             undo(memory, &journal[..2 * result.pairs as usize]);
             result.machine = start;
             result.answer = FileAnswer::Undone;
@@ -56,8 +63,8 @@ pub fn file_run(memory: &mut [u32], journal: &mut [u32], start: Machine, count: 
     result
 }
 
-fn check(words: usize, places: usize, count: u32) -> Result<(), Refusal> {
-    check_memory(words)?;
+fn check(words: usize, bottom: u32, places: usize, count: u32) -> Result<(), Refusal> {
+    check_memory_and_bottom(words, bottom)?;
     if count > MOST_INSTRUCTIONS {
         return Err(Refusal::TooManyInstructions);
     }

@@ -1,11 +1,11 @@
 //! The gate machine: document 01's twelve rows, one of them on each clock; document
-//! 02's wait list, which begins again at its end (CR 3); and its row 12, in which the
-//! machine stays halted (CR 5).
+//! 02's wait list, which begins again at its end (CR 3); its row 12, in which the
+//! machine stays halted (CR 5); and its bottom of memory, which no store alters (CR 6).
 
 use crate::gate_alu::gate_alu;
 use crate::instruction::{is_instruction, Instruction, Operand};
 use crate::machine::{Flags, Machine};
-use crate::refusal::{check_memory, check_waits, Refusal};
+use crate::refusal::{check_memory_and_bottom, check_waits, Refusal};
 
 /// Entered when the word read is no instruction, and never left (CR 5).
 pub const HALTED_ROW: u8 = 12;
@@ -71,9 +71,15 @@ enum Clock {
 }
 
 /// Does `clocks` clocks.
-pub fn gate_run(memory: &mut [u32], waits: &[u16], state: GateState, clocks: u64) -> GateResult {
+pub fn gate_run(
+    memory: &mut [u32],
+    bottom: u32,
+    waits: &[u16],
+    state: GateState,
+    clocks: u64,
+) -> GateResult {
     let mut result = GateResult {
-        answer: check(memory, waits, &state),
+        answer: check(memory, bottom, waits, &state),
         state,
         finished: 0,
     };
@@ -81,7 +87,7 @@ pub fn gate_run(memory: &mut [u32], waits: &[u16], state: GateState, clocks: u64
         return result;
     }
     for _ in 0..clocks {
-        match clock(memory, waits, &mut result.state) {
+        match clock(memory, bottom, waits, &mut result.state) {
             Clock::Moved => {}
             Clock::Finished => result.finished += 1,
             Clock::Stuck => break,
@@ -94,15 +100,17 @@ pub fn gate_run(memory: &mut [u32], waits: &[u16], state: GateState, clocks: u64
 /// Returns how many instructions finished, 0 or 1.
 pub fn gate_clock(
     memory: &mut [u32],
+    bottom: u32,
     waits: &[u16],
     state: &mut GateState,
 ) -> Result<u64, Refusal> {
-    check(memory, waits, state)?;
-    Ok(u64::from(clock(memory, waits, state) == Clock::Finished))
+    check(memory, bottom, waits, state)?;
+    let clock = clock(memory, bottom, waits, state);
+    Ok(u64::from(clock == Clock::Finished))
 }
 
-fn check(memory: &[u32], waits: &[u16], state: &GateState) -> Result<(), Refusal> {
-    check_memory(memory.len())?;
+fn check(memory: &[u32], bottom: u32, waits: &[u16], state: &GateState) -> Result<(), Refusal> {
+    check_memory_and_bottom(memory.len(), bottom)?;
     check_waits(waits.len())?;
     let is_access = matches!(state.row, 1 | 4 | 6 | 9);
     if state.row > HALTED_ROW
@@ -126,7 +134,7 @@ fn position_fits(entries: usize, position: u32) -> bool {
 
 /// One row, or one clock of an access. The rows follow the table whatever the
 /// instruction latch holds, as a lent state may stand in any row.
-fn clock(memory: &mut [u32], waits: &[u16], state: &mut GateState) -> Clock {
+fn clock(memory: &mut [u32], bottom: u32, waits: &[u16], state: &mut GateState) -> Clock {
     let instruction = Instruction::decode(state.instruction);
     match state.row {
         0 => {
@@ -154,7 +162,7 @@ fn clock(memory: &mut [u32], waits: &[u16], state: &mut GateState) -> Clock {
             return Clock::Finished;
         }
         HALTED_ROW => return Clock::Stuck,
-        _ => return access(memory, waits, state),
+        _ => return access(memory, bottom, waits, state),
     }
     Clock::Moved
 }
@@ -200,8 +208,8 @@ fn compute(state: &mut GateState, instruction: Instruction) -> u8 {
     }
 }
 
-/// Rows 1, 4, 6 and 9.
-fn access(memory: &mut [u32], waits: &[u16], state: &mut GateState) -> Clock {
+/// Rows 1, 4, 6 and 9. A store below the bottom is acknowledged like any other (CR 6).
+fn access(memory: &mut [u32], bottom: u32, waits: &[u16], state: &mut GateState) -> Clock {
     let Some(cell) = memory.get_mut(state.address as usize) else {
         return Clock::Stuck;
     };
@@ -212,10 +220,15 @@ fn access(memory: &mut [u32], waits: &[u16], state: &mut GateState) -> Clock {
         state.position = (state.position + 1) % waits.len() as u32;
     }
     state.begun = state.left > 0;
-    if state.begun {
-        return Clock::Moved;
+    if !state.begun {
+        state.row = complete(cell, bottom, state);
     }
-    state.row = match state.row {
+    Clock::Moved
+}
+
+/// The access on its last clock; returns the next row.
+fn complete(cell: &mut u32, bottom: u32, state: &mut GateState) -> u8 {
+    match state.row {
         1 => {
             state.instruction = *cell;
             if is_instruction(*cell) {
@@ -233,9 +246,10 @@ fn access(memory: &mut [u32], waits: &[u16], state: &mut GateState) -> Clock {
             7
         }
         _ => {
-            *cell = state.result;
+            if state.address >= bottom {
+                *cell = state.result;
+            }
             10
         }
-    };
-    Clock::Moved
+    }
 }

@@ -1,5 +1,6 @@
 //! Seeded generators of cases for comparing emulators.
 
+pub mod bottom;
 pub mod halting;
 pub mod image;
 pub mod looping;

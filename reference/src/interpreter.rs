@@ -3,7 +3,7 @@
 use crate::alu::alu;
 use crate::instruction::{is_instruction, Instruction, Operand};
 use crate::machine::Machine;
-use crate::refusal::{check_memory, check_waits, Refusal};
+use crate::refusal::{check_memory_and_bottom, check_waits, Refusal};
 
 /// How a run ended.
 #[derive(Clone, Copy, Debug, PartialEq, Eq)]
@@ -39,26 +39,35 @@ pub struct Step {
     pub clocks: u64,
     /// Memory accesses, each of which takes an entry of the wait list.
     pub accesses: usize,
-    /// Address and former word of a store to memory.
+    /// Address and former word of a store to memory that is not below the bottom.
     pub stored: Option<(u32, u32)>,
+    /// Whether it had a store below the bottom, which alters nothing (CR 6).
+    pub below_bottom: bool,
 }
 
-/// Runs `count` instructions, or fewer if there is a reason to stop before one.
-pub fn run(memory: &mut [u32], waits: &[u16], start: Machine, count: u32) -> RunResult {
+/// Runs `count` instructions, or fewer if there is a reason to stop before one. The
+/// words of memory below `bottom` do not change (CR 6).
+pub fn run(
+    memory: &mut [u32],
+    bottom: u32,
+    waits: &[u16],
+    start: Machine,
+    count: u32,
+) -> RunResult {
     let mut result = RunResult {
         answer: Answer::Finished,
         machine: start,
         ran: 0,
         clocks: 0,
     };
-    if let Err(refusal) = check_memory(memory.len()).and_then(|()| check_waits(waits.len())) {
+    if let Err(refusal) = check(memory.len(), bottom, waits.len()) {
         result.answer = Answer::Refused(refusal);
         return result;
     }
     // The list begins again at its end; an empty one has no waits (CR 3).
     let mut waits = waits.iter().cycle();
     while result.ran < count {
-        let step = match step(memory, &mut result.machine) {
+        let step = match step(memory, bottom, &mut result.machine) {
             Ok(step) => step,
             Err(stop) => {
                 result.answer = Answer::Stopped(stop);
@@ -77,11 +86,16 @@ pub fn run(memory: &mut [u32], waits: &[u16], start: Machine, count: u32) -> Run
     result
 }
 
+fn check(words: usize, bottom: u32, entries: usize) -> Result<(), Refusal> {
+    check_memory_and_bottom(words, bottom)?;
+    check_waits(entries)
+}
+
 /// Carries out the instruction at r0, or changes nothing and says why not; B's word
 /// is needed even where nothing will be stored.
-pub fn step(memory: &mut [u32], machine: &mut Machine) -> Result<Step, Stop> {
+pub fn step(memory: &mut [u32], bottom: u32, machine: &mut Machine) -> Result<Step, Stop> {
     let before = machine.registers;
-    let step = try_step(memory, machine);
+    let step = try_step(memory, bottom, machine);
     if step.is_err() {
         machine.registers = before;
     }
@@ -89,7 +103,7 @@ pub fn step(memory: &mut [u32], machine: &mut Machine) -> Result<Step, Stop> {
 }
 
 /// As [`step`], but r0 and registers stepped down stay so if a word is missing.
-fn try_step(memory: &mut [u32], machine: &mut Machine) -> Result<Step, Stop> {
+fn try_step(memory: &mut [u32], bottom: u32, machine: &mut Machine) -> Result<Step, Stop> {
     let Machine { registers, flags } = machine;
     let instruction = fetch(memory, registers[0])?;
     registers[0] = registers[0].wrapping_add(1);
@@ -99,14 +113,14 @@ fn try_step(memory: &mut [u32], machine: &mut Machine) -> Result<Step, Stop> {
     let result = alu(instruction.alu_operation(), a, b, flags.carry);
     let stores = instruction.stores(*flags);
     *flags = flags.updated(result.flags, instruction.permit);
+    let to_memory = stores && instruction.b.in_memory();
+    let below_bottom = to_memory && address < bottom;
     let mut stored = None;
-    if stores {
-        if instruction.b.in_memory() {
-            memory[address as usize] = result.word;
-            stored = Some((address, b));
-        } else {
-            registers[instruction.b.register()] = result.word;
-        }
+    if to_memory && !below_bottom {
+        memory[address as usize] = result.word;
+        stored = Some((address, b));
+    } else if stores && !to_memory {
+        registers[instruction.b.register()] = result.word;
     }
     instruction.a.step_up(registers);
     instruction.b.step_up(registers);
@@ -115,8 +129,10 @@ fn try_step(memory: &mut [u32], machine: &mut Machine) -> Result<Step, Stop> {
         usize::from(instruction.a.in_memory()) + usize::from(instruction.b.in_memory());
     Ok(Step {
         clocks: 8 + operands_in_memory as u64 + u64::from(stores),
-        accesses: 1 + operands_in_memory + usize::from(stored.is_some()),
+        // A store below the bottom is acknowledged like any other (CR 6).
+        accesses: 1 + operands_in_memory + usize::from(to_memory),
         stored,
+        below_bottom,
     })
 }
 

@@ -8,6 +8,8 @@ use crate::machine::Machine;
 pub const MOST_INPUT: usize = 16_453;
 /// Words of memory lent to the image reader.
 const MEMORY_WORDS: usize = 4_096;
+/// No word is fixed (CR 6).
+const BOTTOM: u32 = 0;
 /// The most instructions listed.
 const MOST_LINES: u32 = 16;
 
@@ -28,7 +30,7 @@ fn list(memory: &mut [u32], mut machine: Machine) -> String {
         let pc = machine.registers[0];
         // Before the step, as the instruction may overwrite itself.
         let word = memory.get(pc as usize).copied().unwrap_or_default();
-        let step = match step(memory, &mut machine) {
+        let step = match step(memory, BOTTOM, &mut machine) {
             Ok(step) => step,
             Err(stop) => return text + &format!("{} {} {total}\n", ending(stop), number - 1),
         };

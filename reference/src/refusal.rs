@@ -7,7 +7,7 @@ pub const MOST_WORDS: usize = 16_777_216;
 /// The most entries of a wait list.
 pub const MOST_WAITS: usize = 65_536;
 
-/// The reasons of document 01; each has its number there as its discriminant.
+/// The reasons of documents 01 and 02; each has its number there as its discriminant.
 #[derive(Clone, Copy, Debug, PartialEq, Eq)]
 #[repr(u8)]
 pub enum Refusal {
@@ -26,6 +26,8 @@ pub enum Refusal {
     BadWordCount = 13,
     ShortMemory = 14,
     TrailingBytes = 15,
+    /// The bottom exceeds the memory's length (CR 6).
+    BottomTooHigh = 21,
 }
 
 impl Refusal {
@@ -40,7 +42,7 @@ impl fmt::Display for Refusal {
     }
 }
 
-/// Reasons 1 and 2, which every run and the image writer check first.
+/// Reasons 1 and 2, which the image writer has too.
 pub(crate) fn check_memory(words: usize) -> Result<(), Refusal> {
     match words {
         0 => Err(Refusal::NoWords),
@@ -49,7 +51,16 @@ pub(crate) fn check_memory(words: usize) -> Result<(), Refusal> {
     }
 }
 
-/// Reason 3, checked after the memory.
+/// Reasons 1, 2 and then 21, which every run checks first (CR 6).
+pub(crate) fn check_memory_and_bottom(words: usize, bottom: u32) -> Result<(), Refusal> {
+    check_memory(words)?;
+    if bottom as usize > words {
+        return Err(Refusal::BottomTooHigh);
+    }
+    Ok(())
+}
+
+/// Reason 3, checked after the memory and its bottom.
 pub(crate) fn check_waits(entries: usize) -> Result<(), Refusal> {
     if entries > MOST_WAITS {
         return Err(Refusal::LongWaitList);

@@ -12,8 +12,8 @@ const SENTINEL: u32 = 0x5A5A_5A5A;
 /// Without waits, an instruction takes no more.
 const MOST_CLOCKS: u32 = 11;
 
-/// Address and former word of every store in the first `count` instructions,
-/// as seen at row 9 of the gate machine. They must all be present.
+/// Address and former word of every store in the first `count` instructions that is
+/// not below the bottom, as seen at row 9 of the gate machine. They must all be present.
 fn stores(program: &Program, count: u32) -> Vec<u32> {
     let mut memory = program.memory.clone();
     let mut state = GateState::start(program.start);
@@ -23,10 +23,10 @@ fn stores(program: &Program, count: u32) -> Vec<u32> {
         if finished == u64::from(count) {
             break;
         }
-        if state.row == 9 {
+        if state.row == 9 && state.address >= program.bottom {
             journal.extend([state.address, memory[state.address as usize]]);
         }
-        finished += gate_clock(&mut memory, &[], &mut state).unwrap();
+        finished += gate_clock(&mut memory, program.bottom, &[], &mut state).unwrap();
     }
     assert_eq!(finished, u64::from(count));
     journal
@@ -35,12 +35,24 @@ fn stores(program: &Program, count: u32) -> Vec<u32> {
 /// Returns whether the file was undone.
 fn check(program: &Program, spare: usize) -> bool {
     let mut run_memory = program.memory.clone();
-    let due = run(&mut run_memory, &[], program.start, program.count);
+    let due = run(
+        &mut run_memory,
+        program.bottom,
+        &[],
+        program.start,
+        program.count,
+    );
     let due_journal = stores(program, due.ran);
 
     let mut memory = program.memory.clone();
     let mut journal = vec![SENTINEL; 2 * program.count as usize + spare];
-    let result = file_run(&mut memory, &mut journal, program.start, program.count);
+    let result = file_run(
+        &mut memory,
+        program.bottom,
+        &mut journal,
+        program.start,
+        program.count,
+    );
     assert_eq!(result.ran, due.ran);
     assert_eq!(2 * result.pairs as usize, due_journal.len());
     let (pairs, unused) = journal.split_at(due_journal.len());
@@ -77,6 +89,7 @@ fn an_address_stored_twice_goes_back_to_its_first_word() {
     let memory = vec![0x0000_0141, 0x0000_0143, 0x0000_000C, 0x77];
     let program = Program {
         memory,
+        bottom: 0,
         waits: vec![],
         start: machine(&[(1, 5), (2, 3), (3, 6), (4, 99)], "0000"),
         count: 9,
@@ -90,6 +103,7 @@ fn an_address_stored_twice_goes_back_to_its_first_word() {
 fn a_store_of_an_equal_word_is_journaled() {
     let program = Program {
         memory: vec![0x0000_0339, 0, 7, 0],
+        bottom: 0,
         waits: vec![],
         start: machine(&[(1, 2)], "0000"),
         count: 1,
@@ -101,7 +115,7 @@ fn a_store_of_an_equal_word_is_journaled() {
 #[test]
 fn a_file_of_none_is_finished() {
     let start = machine(&[(0, 50)], "1111");
-    let result = file_run(&mut [1, 2], &mut [], start, 0);
+    let result = file_run(&mut [1, 2], 0, &mut [], start, 0);
     assert_eq!(
         (result.answer, result.machine),
         (FileAnswer::Finished, start)

@@ -3,11 +3,12 @@
 mod common;
 
 use common::{HALTING, NO_INSTRUCTION};
+use reference::generate::bottom::refused_bottom;
 use reference::generate::looping::looping_program;
 use reference::generate::program::{any_program, program, Kind, Program};
 use reference::generate::state::{gate_state, refused_gate_state};
 use reference::rng::Rng;
-use reference::{is_instruction, run, step, Answer, Instruction, Operand, Stop};
+use reference::{file_run, is_instruction, run, step, Answer, Instruction, Operand, Stop};
 use std::collections::{HashMap, HashSet};
 
 /// What the instructions that really ran had in them.
@@ -66,7 +67,7 @@ impl Seen {
             let (pc, flags) = (machine.registers[0], machine.flags);
             let word = memory.get(pc as usize).copied();
             let modified = usize::from(stored.contains(&pc));
-            let step = match step(&mut memory, &mut machine) {
+            let step = match step(&mut memory, program.bottom, &mut machine) {
                 Ok(step) => step,
                 Err(Stop::NoInstruction) => return self.stored_halting += modified,
                 Err(Stop::Outside) => return,
@@ -83,7 +84,7 @@ impl Seen {
 fn all_forms_of_instructions_run() {
     let mut rng = Rng::new(14);
     let mut seen = Seen::default();
-    for _ in 0..10_000 {
+    for _ in 0..20_000 {
         seen.run(&any_program(&mut rng));
     }
     assert_eq!(seen.forms.len(), 2 * 16 * 16);
@@ -99,7 +100,13 @@ fn all_forms_of_instructions_run() {
 /// The word at which a run ended, and its result's answer and count.
 fn ending(program: &Program) -> (Option<u32>, Answer, u32) {
     let mut memory = program.memory.clone();
-    let result = run(&mut memory, &program.waits, program.start, program.count);
+    let result = run(
+        &mut memory,
+        program.bottom,
+        &program.waits,
+        program.start,
+        program.count,
+    );
     let r0 = result.machine.registers[0] as usize;
     (memory.get(r0).copied(), result.answer, result.ran)
 }
@@ -159,11 +166,9 @@ fn programs_run_on() {
     let mut rng = Rng::new(15);
     let (mut finished, mut ran) = (0, 0);
     for _ in 0..10_000 {
-        let mut program = any_program(&mut rng);
-        let start = program.start;
-        let result = run(&mut program.memory, &program.waits, start, program.count);
-        finished += u32::from(result.answer == Answer::Finished);
-        ran += result.ran;
+        let (_, answer, instructions) = ending(&any_program(&mut rng));
+        finished += u32::from(answer == Answer::Finished);
+        ran += instructions;
     }
     assert!((4_000..6_000).contains(&finished), "{finished}");
     assert!(ran > 50_000, "{ran}");
@@ -197,6 +202,63 @@ fn wait_lists_are_absent_short_and_long() {
         seen[3] += usize::from(program.waits.iter().any(|&wait| wait > 1_000));
     }
     assert!(seen.iter().all(|&times| times > 0), "{seen:?}");
+}
+
+#[test]
+fn bottoms_are_none_few_some_and_all_words() {
+    let mut rng = Rng::new(64);
+    let mut times = [0; 4];
+    for _ in 0..10_000 {
+        let program = any_program(&mut rng);
+        let (bottom, length) = (program.bottom as usize, program.memory.len());
+        assert!(bottom <= length);
+        times[0] += usize::from(bottom == 0);
+        times[1] += usize::from((1..5).contains(&bottom));
+        times[2] += usize::from((5..length).contains(&bottom));
+        times[3] += usize::from(bottom == length);
+    }
+    assert!(times.iter().all(|&times| times > 1_000), "{times:?}");
+    let past: HashSet<u32> = (0..100).map(|_| refused_bottom(&mut rng, 7)).collect();
+    assert!(past.iter().all(|&bottom| bottom > 7));
+    assert!(past.contains(&8) && past.contains(&u32::MAX));
+}
+
+/// How many stores of its run are below its bottom, and how many pairs its journal has.
+fn stores(program: &Program) -> [usize; 2] {
+    let Program {
+        bottom,
+        start,
+        count,
+        ..
+    } = *program;
+    let mut journal = vec![0; 2 * count as usize];
+    let ran = file_run(
+        &mut program.memory.clone(),
+        bottom,
+        &mut journal,
+        start,
+        count,
+    );
+    [program.stores_below_bottom(), ran.pairs as usize]
+}
+
+/// A good part of the programs, and stores on both sides of many a bottom.
+#[test]
+fn programs_store_below_their_bottoms() {
+    let mut rng = Rng::new(65);
+    let (mut below, mut both) = (0, 0);
+    for _ in 0..10_000 {
+        let program = any_program(&mut rng);
+        let stores = stores(&program);
+        below += usize::from(stores[0] > 0);
+        both += usize::from(stores.iter().all(|&stores| stores > 0));
+    }
+    assert!(below > 2_000, "{below}");
+    assert!(both > 500, "{both}");
+    let looping: Vec<Program> = (0..200).map(|_| looping_program(&mut rng)).collect();
+    let below = |program: &&Program| program.stores_below_bottom() > 0;
+    let below = looping.iter().filter(below).count();
+    assert!((20..80).contains(&below), "{below}");
 }
 
 #[test]

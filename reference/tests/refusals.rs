@@ -1,14 +1,19 @@
-//! The fifteen reasons to turn a call down, and which of several is given.
+//! The reasons to turn a call down, and which of several is given.
 
 mod common;
 
 use common::machine;
+use reference::generate::bottom::refused_bottom;
 use reference::generate::state::{gate_state, refused_gate_state};
 use reference::image::{image_size, read, to_bytes, write};
 use reference::rng::Rng;
-use reference::{file_run, gate_run, run, Answer, FileAnswer, GateState, Machine, Refusal};
+use reference::{file_run, gate_clock, gate_run, run};
+use reference::{Answer, FileAnswer, GateState, Machine, Refusal};
 
 const TOO_LONG: usize = 16_777_217;
+
+/// The first bottom past the longest memory.
+const PAST: u32 = 16_777_217;
 
 fn start() -> Machine {
     machine(&[(0, 2), (5, 77)], "0101")
@@ -19,8 +24,8 @@ fn zeros(words: usize) -> Vec<u32> {
     vec![0; words]
 }
 
-fn run_refusal(memory: &mut [u32], waits: &[u16], count: u32) -> Option<u8> {
-    let result = run(memory, waits, start(), count);
+fn run_refusal(memory: &mut [u32], bottom: u32, waits: &[u16], count: u32) -> Option<u8> {
+    let result = run(memory, bottom, waits, start(), count);
     let Answer::Refused(refusal) = result.answer else {
         return None;
     };
@@ -29,16 +34,21 @@ fn run_refusal(memory: &mut [u32], waits: &[u16], count: u32) -> Option<u8> {
     Some(refusal.number())
 }
 
-fn gate_refusal(memory: &mut [u32], waits: &[u16], state: GateState) -> Option<u8> {
-    let result = gate_run(memory, waits, state, 3);
+/// Of a gate run and of the one-clock call, which have the same reasons.
+fn gate_refusal(memory: &mut [u32], bottom: u32, waits: &[u16], state: GateState) -> Option<u8> {
+    let result = gate_run(memory, bottom, waits, state, 3);
+    let mut lent = state;
+    let clock = gate_clock(memory, bottom, waits, &mut lent);
+    assert_eq!(clock.map(|_| ()), result.answer);
     let refusal = result.answer.err()?;
     assert_eq!((result.state, result.finished), (state, 0));
+    assert_eq!(lent, state);
     Some(refusal.number())
 }
 
-fn file_refusal(memory: &mut [u32], journal: &mut [u32], count: u32) -> Option<u8> {
+fn file_refusal(memory: &mut [u32], bottom: u32, journal: &mut [u32], count: u32) -> Option<u8> {
     let former = journal.to_vec();
-    let result = file_run(memory, journal, start(), count);
+    let result = file_run(memory, bottom, journal, start(), count);
     let FileAnswer::Refused(refusal) = result.answer else {
         return None;
     };
@@ -49,7 +59,7 @@ fn file_refusal(memory: &mut [u32], journal: &mut [u32], count: u32) -> Option<u
 }
 
 #[test]
-fn numbers_are_those_of_the_paper() {
+fn numbers_are_those_of_the_papers() {
     let all = [
         Refusal::NoWords,
         Refusal::TooManyWords,
@@ -66,22 +76,28 @@ fn numbers_are_those_of_the_paper() {
         Refusal::BadWordCount,
         Refusal::ShortMemory,
         Refusal::TrailingBytes,
+        Refusal::BottomTooHigh,
     ];
     let numbers: Vec<u8> = all.iter().map(|refusal| refusal.number()).collect();
-    assert_eq!(numbers, (1..=15).collect::<Vec<u8>>());
+    let due: Vec<u8> = (1..=15).chain([21]).collect();
+    assert_eq!(numbers, due);
 }
 
 #[test]
 fn interpreter() {
     let long_list = vec![0; 65_537];
-    assert_eq!(run_refusal(&mut [], &[], 0), Some(1));
-    assert_eq!(run_refusal(&mut [], &long_list, 5), Some(1));
+    assert_eq!(run_refusal(&mut [], 0, &[], 0), Some(1));
+    assert_eq!(run_refusal(&mut [], 1, &long_list, 5), Some(1));
     let mut long = zeros(TOO_LONG);
-    assert_eq!(run_refusal(&mut long, &long_list, 5), Some(2));
-    assert_eq!(run_refusal(&mut long[1..], &long_list, 5), Some(3));
-    assert_eq!(run_refusal(&mut long[1..], &long_list[1..], 5), None);
+    assert_eq!(run_refusal(&mut long, 0, &long_list, 5), Some(2));
+    assert_eq!(run_refusal(&mut long, PAST + 1, &long_list, 5), Some(2));
+    assert_eq!(run_refusal(&mut long[1..], PAST, &long_list, 5), Some(21));
+    let memory = &mut long[1..];
+    assert_eq!(run_refusal(memory, PAST - 1, &long_list, 5), Some(3));
+    assert_eq!(run_refusal(memory, PAST - 1, &long_list[1..], 5), None);
     let mut memory = [3, 4, 5, 6];
-    assert_eq!(run_refusal(&mut memory, &long_list, 5), Some(3));
+    assert_eq!(run_refusal(&mut memory, 5, &long_list, 5), Some(21));
+    assert_eq!(run_refusal(&mut memory, 4, &long_list, 5), Some(3));
     assert_eq!(memory, [3, 4, 5, 6]);
 }
 
@@ -92,13 +108,16 @@ fn gate_machine() {
         row: 13,
         ..GateState::default()
     };
-    assert_eq!(gate_refusal(&mut [], &long_list, bad), Some(1));
+    assert_eq!(gate_refusal(&mut [], 1, &long_list, bad), Some(1));
     let mut long = zeros(TOO_LONG);
-    assert_eq!(gate_refusal(&mut long, &long_list, bad), Some(2));
-    assert_eq!(gate_refusal(&mut long[1..], &long_list, bad), Some(3));
-    assert_eq!(gate_refusal(&mut [7], &long_list[1..], bad), Some(4));
+    assert_eq!(gate_refusal(&mut long, PAST + 1, &long_list, bad), Some(2));
+    let memory = &mut long[1..];
+    assert_eq!(gate_refusal(memory, PAST, &long_list, bad), Some(21));
+    assert_eq!(gate_refusal(memory, PAST - 1, &long_list, bad), Some(3));
+    assert_eq!(gate_refusal(&mut [7], 2, &long_list[1..], bad), Some(21));
+    assert_eq!(gate_refusal(&mut [7], 1, &long_list[1..], bad), Some(4));
     let good = GateState::default();
-    assert_eq!(gate_refusal(&mut [7], &long_list[1..], good), None);
+    assert_eq!(gate_refusal(&mut [7], 1, &long_list[1..], good), None);
 }
 
 /// Each bound of reason 4 from both sides.
@@ -111,7 +130,7 @@ fn gate_states() {
             left,
             ..GateState::default()
         };
-        gate_refusal(&mut [7], &[], state) == Some(4)
+        gate_refusal(&mut [7], 0, &[], state) == Some(4)
     };
     for row in 0..=255 {
         let access = [1, 4, 6, 9].contains(&row);
@@ -133,7 +152,7 @@ fn list_positions() {
             position,
             ..GateState::default()
         };
-        gate_refusal(&mut [7; 4], &vec![1; entries], state)
+        gate_refusal(&mut [7; 4], 0, &vec![1; entries], state)
     };
     for entries in [0, 1, 2, 5, 65_535, 65_536] {
         let end = entries.max(1) as u32;
@@ -157,27 +176,38 @@ fn generated_gate_states() {
         let entries = rng.below(10);
         let waits = vec![2; entries];
         let bad = refused_gate_state(&mut rng, 4, entries);
-        assert_eq!(gate_refusal(&mut [7; 4], &waits, bad), Some(4));
+        let bottom = rng.between(0, 4) as u32;
+        assert_eq!(gate_refusal(&mut [7; 4], bottom, &waits, bad), Some(4));
+        let past = refused_bottom(&mut rng, 4);
+        assert_eq!(gate_refusal(&mut [7; 4], past, &waits, bad), Some(21));
         let good = gate_state(&mut rng, 4, entries);
-        assert_eq!(gate_refusal(&mut [7; 4], &waits, good), None);
+        assert_eq!(gate_refusal(&mut [7; 4], past, &waits, good), Some(21));
+        assert_eq!(gate_refusal(&mut [7; 4], bottom, &waits, good), None);
     }
 }
 
 #[test]
 fn file_runs() {
-    assert_eq!(file_refusal(&mut [], &mut [], 65_537), Some(1));
+    assert_eq!(file_refusal(&mut [], 1, &mut [], 65_537), Some(1));
     let mut long = zeros(TOO_LONG);
-    assert_eq!(file_refusal(&mut long, &mut [], 65_537), Some(2));
-    assert_eq!(file_refusal(&mut long[1..], &mut [], 65_537), Some(5));
-    assert_eq!(file_refusal(&mut [7], &mut [], u32::MAX), Some(5));
+    assert_eq!(file_refusal(&mut long, PAST + 1, &mut [], 65_537), Some(2));
+    let memory = &mut long[1..];
+    assert_eq!(file_refusal(memory, PAST, &mut [], 65_537), Some(21));
+    assert_eq!(file_refusal(memory, PAST - 1, &mut [], 65_537), Some(5));
+    let refusal =
+        |bottom, journal: &mut [u32], count| file_refusal(&mut [7], bottom, journal, count);
+    assert_eq!(refusal(0, &mut [], u32::MAX), Some(5));
     let mut journal = vec![1; 131_072];
-    assert_eq!(file_refusal(&mut [7], &mut journal, 65_537), Some(5));
-    assert_eq!(file_refusal(&mut [7], &mut journal[1..], 65_536), Some(6));
-    assert_eq!(file_refusal(&mut [7], &mut journal, 65_536), None);
-    assert_eq!(file_refusal(&mut [7], &mut [], 1), Some(6));
-    assert_eq!(file_refusal(&mut [7], &mut [0; 1], 1), Some(6));
-    assert_eq!(file_refusal(&mut [7], &mut [0; 2], 1), None);
-    assert_eq!(file_refusal(&mut [7], &mut [], 0), None);
+    assert_eq!(refusal(0, &mut journal, 65_537), Some(5));
+    assert_eq!(refusal(2, &mut journal, 65_537), Some(21));
+    assert_eq!(refusal(2, &mut journal[1..], 65_536), Some(21));
+    assert_eq!(refusal(1, &mut journal[1..], 65_536), Some(6));
+    assert_eq!(refusal(1, &mut journal, 65_536), None);
+    assert_eq!(refusal(0, &mut [], 1), Some(6));
+    assert_eq!(refusal(0, &mut [0; 1], 1), Some(6));
+    assert_eq!(refusal(0, &mut [0; 2], 1), None);
+    assert_eq!(refusal(0, &mut [], 0), None);
+    assert_eq!(refusal(2, &mut [], 0), Some(21));
 }
 
 #[test]

@@ -26,6 +26,7 @@ fn a_run_takes_the_clocks_that_it_takes_under_the_list_written_out() {
     for _ in 0..5_000 {
         let Program {
             memory,
+            bottom,
             start,
             count,
             ..
@@ -33,7 +34,7 @@ fn a_run_takes_the_clocks_that_it_takes_under_the_list_written_out() {
         let waits = short_list(&mut rng);
         let [turning, long] = [&waits, &unrolled(&waits)].map(|waits| {
             let mut memory = memory.clone();
-            (run(&mut memory, waits, start, count), memory)
+            (run(&mut memory, bottom, waits, start, count), memory)
         });
         assert_eq!(turning, long);
     }
@@ -43,13 +44,13 @@ fn a_run_takes_the_clocks_that_it_takes_under_the_list_written_out() {
 fn a_gate_run_goes_as_under_the_list_written_out() {
     let mut rng = Rng::new(32);
     for _ in 0..5_000 {
-        let memory = any_program(&mut rng).memory;
+        let Program { memory, bottom, .. } = any_program(&mut rng);
         let waits = short_list(&mut rng);
         let start = gate_state(&mut rng, memory.len(), waits.len());
         let clocks = rng.between(0, 300) as u64;
         let [turning, mut long] = [&waits, &unrolled(&waits)].map(|waits| {
             let mut memory = memory.clone();
-            (gate_run(&mut memory, waits, start, clocks), memory)
+            (gate_run(&mut memory, bottom, waits, start, clocks), memory)
         });
         long.0.state.position %= waits.len() as u32;
         assert_eq!(turning, long);
@@ -68,7 +69,7 @@ fn the_last_entry_leads_to_the_first() {
             };
             let mut waits = vec![9; entries as usize];
             waits[entries as usize - 1] = wait;
-            let result = gate_run(&mut [8], &waits, start, 1);
+            let result = gate_run(&mut [8], 0, &waits, start, 1);
             let due = GateState {
                 row: if wait == 0 { 5 } else { 4 },
                 a: if wait == 0 { 8 } else { 0 },
@@ -88,13 +89,13 @@ fn five_entries_by_hand() {
     let program = [0x0000_0129; 5]; // move (r1),(r1): 11 clocks, 4 accesses
     let waits = [1, 2, 3, 4, 5];
     let mut memory = program;
-    let result = run(&mut memory, &waits, Default::default(), 5);
+    let result = run(&mut memory, 0, &waits, Default::default(), 5);
     assert_eq!((result.ran, result.clocks), (5, 5 * 11 + 4 * 15));
     let total = result.clocks;
     for (clocks, finished) in [(total - 1, 4), (total, 5)] {
         let mut memory = program;
         let state = GateState::start(Default::default());
-        let result = gate_run(&mut memory, &waits, state, clocks);
+        let result = gate_run(&mut memory, 0, &waits, state, clocks);
         assert_eq!(result.finished, finished);
         assert_eq!(result.state.position, 0);
     }
@@ -106,17 +107,18 @@ fn an_empty_list_has_no_waits() {
     for _ in 0..1_000 {
         let Program {
             memory,
+            bottom,
             start,
             count,
             ..
         } = any_program(&mut rng);
         let [none, zeros] = [&[][..], &[0, 0, 0]].map(|waits| {
             let mut memory = memory.clone();
-            (run(&mut memory, waits, start, count), memory)
+            (run(&mut memory, bottom, waits, start, count), memory)
         });
         assert_eq!(none, zeros);
         let state = GateState::start(start);
-        let result = gate_run(&mut memory.clone(), &[], state, none.0.clocks);
+        let result = gate_run(&mut memory.clone(), bottom, &[], state, none.0.clocks);
         assert_eq!(result.finished, u64::from(none.0.ran));
         assert_eq!(result.state.position, 0);
     }

@@ -1,7 +1,12 @@
 //! Safe calls of the proved FM8502 emulator.
 //!
 //! Every call takes what it is lent as slices, refuses bad input with the
-//! paper's number, and leaves everything lent as it was when it refuses.
+//! papers' number, and leaves everything lent as it was when it refuses.
+//!
+//! Every run takes the memory's `bottom`: how many words at its front hold the
+//! board's loader, at most its length. A store to one of them takes its clocks and
+//! waits and alters nothing, and the journal does not note it. With 0 every word
+//! can be stored to.
 
 pub mod library;
 mod refused;
@@ -38,7 +43,7 @@ pub struct FileRun {
 fn carried_out(code: u32) -> Result<u32, Refused> {
     match code {
         library::DONE | library::STOPPED | library::HALTED => Ok(code),
-        // The wrappers lend slices of the right length, so this is 1 to 15.
+        // The wrappers lend slices of the right length, so this is a refusal.
         number => Err(Refused(number)),
     }
 }
@@ -48,13 +53,15 @@ fn carried_out(code: u32) -> Result<u32, Refused> {
 /// list begins again, and an empty list means no waits.
 pub fn run(
     memory: &mut [u32],
+    bottom: u32,
     waits: &[u16],
     machine: &mut Machine,
     count: u32,
 ) -> Result<Run, Refused> {
     let mut words = machine.to_words();
     let mut result = [0u64; 2];
-    let code = carried_out(library::run(memory, waits, &mut words, count, &mut result))?;
+    let code = library::run(memory, bottom, waits, &mut words, count, &mut result);
+    let code = carried_out(code)?;
     *machine = Machine::from_words(&words);
     Ok(Run {
         finished: code == library::DONE,
@@ -69,13 +76,14 @@ pub fn run(
 /// each instruction.
 pub fn file_run(
     memory: &mut [u32],
+    bottom: u32,
     journal: &mut [u32],
     machine: &mut Machine,
     count: u32,
 ) -> Result<FileRun, Refused> {
     let mut words = machine.to_words();
     let mut result = [0u64; 2];
-    let code = library::file_run(memory, journal, &mut words, count, &mut result);
+    let code = library::file_run(memory, bottom, journal, &mut words, count, &mut result);
     let code = carried_out(code)?;
     *machine = Machine::from_words(&words);
     Ok(FileRun {
@@ -89,6 +97,7 @@ pub fn file_run(
 /// from the state's position; returns the instructions finished.
 pub fn gate_run(
     memory: &mut [u32],
+    bottom: u32,
     waits: &[u16],
     state: &mut GateState,
     clocks: u64,
@@ -97,6 +106,7 @@ pub fn gate_run(
     let mut result = [0u64; 1];
     carried_out(library::gate_run(
         memory,
+        bottom,
         waits,
         &mut words,
         clocks,
@@ -107,10 +117,21 @@ pub fn gate_run(
 }
 
 /// Does one clock of the gate machine; returns whether an instruction finished.
-pub fn clock(memory: &mut [u32], waits: &[u16], state: &mut GateState) -> Result<bool, Refused> {
+pub fn clock(
+    memory: &mut [u32],
+    bottom: u32,
+    waits: &[u16],
+    state: &mut GateState,
+) -> Result<bool, Refused> {
     let mut words = state.to_words();
     let mut result = [0u64; 1];
-    carried_out(library::clock(memory, waits, &mut words, &mut result))?;
+    carried_out(library::clock(
+        memory,
+        bottom,
+        waits,
+        &mut words,
+        &mut result,
+    ))?;
     *state = GateState::from_words(&words);
     Ok(result[0] == 1)
 }

@@ -3,8 +3,8 @@
 //! A slice passes as its pointer and its length. Nothing checks these
 //! declarations against the archive, so they stand in one place.
 //!
-//! A code from 1 to 15 is the paper's refusal. After it and after [`MISFIT`]
-//! everything lent is as it was.
+//! A code that has no name here is the papers' refusal. After it and after
+//! [`MISFIT`] everything lent is as it was.
 
 pub use crate::words::{MACHINE_SIZE, STATE_SIZE};
 
@@ -22,6 +22,7 @@ mod raw {
         pub fn fm8502_run(
             memory: *mut u32,
             memory_words: usize,
+            bottom: u32,
             waits: *const u16,
             waits_entries: usize,
             machine: *mut u32,
@@ -33,6 +34,7 @@ mod raw {
         pub fn fm8502_file_run(
             memory: *mut u32,
             memory_words: usize,
+            bottom: u32,
             journal: *mut u32,
             journal_places: usize,
             machine: *mut u32,
@@ -44,6 +46,7 @@ mod raw {
         pub fn fm8502_gate_run(
             memory: *mut u32,
             memory_words: usize,
+            bottom: u32,
             waits: *const u16,
             waits_entries: usize,
             state: *mut u32,
@@ -55,6 +58,7 @@ mod raw {
         pub fn fm8502_clock(
             memory: *mut u32,
             memory_words: usize,
+            bottom: u32,
             waits: *const u16,
             waits_entries: usize,
             state: *mut u32,
@@ -93,6 +97,7 @@ mod raw {
 /// that ran, clock total.
 pub fn run(
     memory: &mut [u32],
+    bottom: u32,
     waits: &[u16],
     machine: &mut [u32],
     count: u32,
@@ -102,6 +107,7 @@ pub fn run(
         raw::fm8502_run(
             memory.as_mut_ptr(),
             memory.len(),
+            bottom,
             waits.as_ptr(),
             waits.len(),
             machine.as_mut_ptr(),
@@ -116,6 +122,7 @@ pub fn run(
 /// `machine` as for [`run`]. `result`: instructions that ran, journal pairs.
 pub fn file_run(
     memory: &mut [u32],
+    bottom: u32,
     journal: &mut [u32],
     machine: &mut [u32],
     count: u32,
@@ -125,6 +132,7 @@ pub fn file_run(
         raw::fm8502_file_run(
             memory.as_mut_ptr(),
             memory.len(),
+            bottom,
             journal.as_mut_ptr(),
             journal.len(),
             machine.as_mut_ptr(),
@@ -141,6 +149,7 @@ pub fn file_run(
 /// instructions finished.
 pub fn gate_run(
     memory: &mut [u32],
+    bottom: u32,
     waits: &[u16],
     state: &mut [u32],
     clocks: u64,
@@ -150,6 +159,7 @@ pub fn gate_run(
         raw::fm8502_gate_run(
             memory.as_mut_ptr(),
             memory.len(),
+            bottom,
             waits.as_ptr(),
             waits.len(),
             state.as_mut_ptr(),
@@ -162,11 +172,18 @@ pub fn gate_run(
 }
 
 /// As [`gate_run`] of one clock.
-pub fn clock(memory: &mut [u32], waits: &[u16], state: &mut [u32], result: &mut [u64]) -> u32 {
+pub fn clock(
+    memory: &mut [u32],
+    bottom: u32,
+    waits: &[u16],
+    state: &mut [u32],
+    result: &mut [u64],
+) -> u32 {
     unsafe {
         raw::fm8502_clock(
             memory.as_mut_ptr(),
             memory.len(),
+            bottom,
             waits.as_ptr(),
             waits.len(),
             state.as_mut_ptr(),

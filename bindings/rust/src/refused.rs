@@ -2,27 +2,29 @@
 
 use std::fmt;
 
-/// Why a call was turned down: the paper's number, 1 to 15.
+/// Why a call was turned down: the papers' number.
 #[derive(Clone, Copy, Debug, PartialEq, Eq)]
 pub struct Refused(pub u32);
 
-/// The paper's reasons, number 1 first.
-const REASONS: [&str; 15] = [
-    "the memory has no words",
-    "the memory has more than 16,777,216 words",
-    "the wait list has more than 65,536 entries",
-    "the gate state has a bad row, list position or access",
-    "the file run wants more than 65,536 instructions",
-    "the journal has fewer than two places for each instruction",
-    "the output is shorter than the image",
-    "the image ends inside a field or before its end field",
-    "a tag is not the one due",
-    "a length is not the one due",
-    "the version is not 1",
-    "a flag byte exceeds 1",
-    "the word count is 0 or above 16,777,216",
-    "the memory is shorter than the word count",
-    "bytes follow the end field",
+/// The papers' reasons, each with its number.
+#[rustfmt::skip] // tests/bindings.sh reads a reason a line
+const REASONS: [(u32, &str); 16] = [
+    (1, "the memory has no words"),
+    (2, "the memory has more than 16,777,216 words"),
+    (3, "the wait list has more than 65,536 entries"),
+    (4, "the gate state has a bad row, list position or access"),
+    (5, "the file run wants more than 65,536 instructions"),
+    (6, "the journal has fewer than two places for each instruction"),
+    (7, "the output is shorter than the image"),
+    (8, "the image ends inside a field or before its end field"),
+    (9, "a tag is not the one due"),
+    (10, "a length is not the one due"),
+    (11, "the version is not 1"),
+    (12, "a flag byte exceeds 1"),
+    (13, "the word count is 0 or above 16,777,216"),
+    (14, "the memory is shorter than the word count"),
+    (15, "bytes follow the end field"),
+    (21, "the bottom exceeds the memory's length"),
 ];
 
 impl fmt::Display for Refused {
@@ -30,8 +32,8 @@ impl fmt::Display for Refused {
         let Refused(number) = *self;
         write!(f, "refused {number}")?;
         // The number is open to the caller, and can be one that no call returns.
-        match REASONS.get((number as usize).wrapping_sub(1)) {
-            Some(reason) => write!(f, ": {reason}"),
+        match REASONS.iter().find(|(known, _)| *known == number) {
+            Some((_, reason)) => write!(f, ": {reason}"),
             None => Ok(()),
         }
     }

@@ -1,6 +1,7 @@
 -- Two runs under different wait lists: the list changes nothing but the clocks.
 use mathlib.Core.Path.{sym, ap, _∙_}
 use Rattle.model.specs.Waiting.{Work}
+use Rattle.model.specs.Board.{boardWith}
 use Rattle.model.specs.Refusals.{runVerdict}
 use Rattle.model.proofs.Waiting.{waits-only-wait}
 use Rattle.model.proofs.Verdicts.{accepted}
@@ -9,11 +10,13 @@ use Rattle.interpreter.proofs.Answers.{returned, left-in}
 use Rattle.agreement.specs.AnyWaits.{AnyWaits}
 
 pub any-waits : AnyWaits
-any-waits memory waits waits′ start n r words c z r′ words′ d y =
-    let v = accepted (runVerdict memory waits) (sym (c .number) ∙ z) in
-    let u = accepted (runVerdict memory waits′) (sym (d .number) ∙ y) in
-    let same = waits-only-wait waits waits′ start memory 0 0 n in
-    rw (returned memory waits start n v c, left-in memory waits start n v c, returned memory waits′ start n u d, left-in memory waits′ start n u d)
+any-waits memory bottom waits waits′ start n r words c z r′ words′ d y =
+    let board = boardWith bottom waits in
+    let board′ = boardWith bottom waits′ in
+    let v = accepted (runVerdict memory board) (sym (c .number) ∙ z) in
+    let u = accepted (runVerdict memory board′) (sym (d .number) ∙ y) in
+    let same = waits-only-wait bottom waits waits′ start memory 0 0 n in
+    rw (returned memory board start n v c, left-in memory board start n v c, returned memory board′ start n u d, left-in memory board′ start n u d)
     (record {
       answer = ap (λ (w : Work). runAnswer (w .ending)) same;
       machine = ap (λ (w : Work). w .machine) same;

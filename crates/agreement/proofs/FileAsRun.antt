@@ -11,7 +11,7 @@ use Rattle.model.specs.Waiting.{Work, workOf}
 use Rattle.model.specs.Refusals.{runVerdict, fileVerdict}
 use Rattle.model.proofs.Waiting.{waits-only-wait}
 use Rattle.model.proofs.Verdicts.{accepted}
-use Rattle.interpreter.specs.Calls.{runResult, fileEnd, memoryEnd}
+use Rattle.interpreter.specs.Calls.{runResult, fileBoard, fileEnd, memoryEnd}
 use Rattle.interpreter.proofs.Answers.{returned, left-in, file-returned, file-left}
 use Rattle.agreement.specs.FileAsRun.{AsRun, FileAsRun}
 
@@ -51,8 +51,9 @@ module _ (memory : List ℕ) (start : Machine) (i j : Run) (same : workOf j ≡ 
           })
 
 pub file-as-run : FileAsRun
-file-as-run memory waits journal start n r words c z f words′ journal′ d y =
-    let v = accepted (runVerdict memory waits) (sym (c .number) ∙ z) in
-    let u = accepted (fileVerdict memory journal n) (sym (d .number) ∙ y) in
-    rw (returned memory waits start n v c, left-in memory waits start n v c, file-returned memory journal start n u d, file-left memory journal start n u d)
-    (claim memory start (interpret waits n (begin start memory 0)) (interpret [] n (begin start memory 0)) (waits-only-wait [] waits start memory 0 0 n) _)
+file-as-run memory board journal start n r words c z f words′ journal′ d y =
+    let bottom = board .bottom in
+    let v = accepted (runVerdict memory board) (sym (c .number) ∙ z) in
+    let u = accepted (fileVerdict memory bottom journal n) (sym (d .number) ∙ y) in
+    rw (returned memory board start n v c, left-in memory board start n v c, file-returned memory bottom journal start n u d, file-left memory bottom journal start n u d)
+    (claim memory start (interpret board n (begin start memory 0)) (interpret (fileBoard bottom) n (begin start memory 0)) (waits-only-wait bottom [] (board .waits) start memory 0 0 n) _)

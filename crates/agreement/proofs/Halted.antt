@@ -5,6 +5,7 @@ use mathlib.Core.List.{List}
 use Rattle.model.specs.declared.GateState.{GateState}
 use Rattle.model.specs.declared.Verdict.{Verdict}
 use Rattle.model.specs.declared.Verdict.the-variants.{Accepted, Refused}
+use Rattle.model.specs.Board.{Board}
 use Rattle.model.specs.GateMachine.{Gate, gateRun}
 use Rattle.model.specs.Refusals.{leftBy, gateVerdict}
 use Rattle.model.specs.Agreement.{gateFrom}
@@ -13,7 +14,7 @@ use Rattle.model.proofs.Blocked.{stands}
 use Rattle.gate_machine.specs.Calls.{gateResult, gateReturned, gateWords}
 use Rattle.agreement.specs.Halted.{Unchanged, HaltedRun, HaltedClock}
 
-module _ (memory waits : List ℕ) (s : GateState) (k : ℕ) (e : s .row ≡ 12) where
+module _ (memory : List ℕ) (board : Board) (s : GateState) (k : ℕ) (e : s .row ≡ 12) where
   -- what a gate run returns and leaves, by its verdict
   by-verdict : (v : Verdict) (g : Gate) → g ≡ gateFrom s memory → let r = gateResult v s g in
       Unchanged memory s (leftBy v (g .memory) memory) (r .state) (r .outcome .finished)
@@ -21,14 +22,14 @@ module _ (memory waits : List ℕ) (s : GateState) (k : ℕ) (e : s .row ≡ 12)
       record { state = ap (λ (g : Gate). g .state) q; words = ap (λ (g : Gate). g .memory) q; finished = ap (λ (g : Gate). g .finished) q }
   by-verdict (Refused why) g q = record { state = refl; words = refl; finished = refl }
 
-  unchanged : let r = gateReturned memory waits s k in Unchanged memory s (gateWords memory waits s k) (r .state) (r .outcome .finished)
+  unchanged : let r = gateReturned memory board s k in Unchanged memory s (gateWords memory board s k) (r .state) (r .outcome .finished)
   unfolding gateReturned gateWords
   unchanged =
-      by-verdict (gateVerdict memory waits s) (gateRun waits k (gateFrom s memory))
-      (stands waits (halted-stands waits (gateFrom s memory) e) k)
+      by-verdict (gateVerdict memory board s) (gateRun board k (gateFrom s memory))
+      (stands board (halted-stands board (gateFrom s memory) e) k)
 
 pub halted-run : HaltedRun
-halted-run memory waits s k e r memory′ h = rw (h .result, h .words) (unchanged memory waits s k e)
+halted-run memory board s k e r memory′ h = rw (h .result, h .words) (unchanged memory board s k e)
 
 pub halted-clock : HaltedClock
-halted-clock memory waits s e r s′ memory′ h = rw (h .result, h .advanced, h .words) (unchanged memory waits s 1 e)
+halted-clock memory board s e r s′ memory′ h = rw (h .result, h .advanced, h .words) (unchanged memory board s 1 e)

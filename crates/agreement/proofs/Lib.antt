@@ -1,6 +1,7 @@
 mod Series
 mod TwoRuns
 mod Halted
+mod Bottom
 mod Starred
 mod AnyWaits
 mod FileAsRun

@@ -9,10 +9,10 @@ use Rattle.gate_machine.proofs.Answers.{carried-out}
 use Rattle.agreement.specs.Series.{one, more, SeriesAsOne}
 
 pub series-as-one : SeriesAsOne
-series-as-one waits memory start k f s m e (one h) = carried-out memory waits start k e h
-series-as-one waits memory start k f s m e (more {i = i} {f = f₁} {s = s₁} {m = m₁} {k = j} {r = r} {after = after} p h) =
-    let q = series-as-one waits memory start i f₁ s₁ m₁ e p in
-    let c = carried-out m₁ waits s₁ j (next-accepted memory waits start e i q) h in
+series-as-one board memory start k f s m e (one h) = carried-out memory board start k h e
+series-as-one board memory start k f s m e (more {i = i} {f = f₁} {s = s₁} {m = m₁} {k = j} {r = r} {after = after} p h) =
+    let q = series-as-one board memory start i f₁ s₁ m₁ e p in
+    let c = carried-out m₁ board s₁ j h (next-accepted memory board start e i q) in
     ap (λ (g : Gate). gate (g .state) (g .memory) (f₁ + g .finished)) c
-    ∙ ap (λ (g : Gate). let second = gateRun waits j (gateFrom (g .state) (g .memory)) in gate (second .state) (second .memory) (g .finished + second .finished)) q
-    ∙ sym (continuation waits start memory i j)
+    ∙ ap (λ (g : Gate). let second = gateRun board j (gateFrom (g .state) (g .memory)) in gate (second .state) (second .memory) (g .finished + second .finished)) q
+    ∙ sym (continuation board start memory i j)

@@ -6,6 +6,7 @@ use mathlib.Core.List.{List, [], _∷_}
 use lib.Dec.{T, eqb, eqb→eq}
 use store.Enc.{and-l, and-r}
 use Rattle.model.specs.declared.Verdict.the-variants.{Accepted}
+use Rattle.model.specs.Board.{Board, boardWith}
 use Rattle.model.specs.Interpreter.{Run, interpret}
 use Rattle.model.specs.GateMachine.{Gate, gateRun}
 use Rattle.model.specs.Refusals.{verdictNumber, runVerdict}
@@ -20,23 +21,27 @@ use Rattle.gate_machine.proofs.Answers.{carried-out}
 use Rattle.agreement.specs.Starred.{Holds, AllHold, StarredCases}
 use Rattle.agreement.proofs.TwoRuns.{same-verdict}
 
+-- the bottom of every case is at 0
+abbrev boardOf : Case → Board
+boardOf c = boardWith 0 (c .waits)
+
 -- no case is turned down
 abbrev taken : Case → Bool
-taken c = eqb (verdictNumber (runVerdict (c .memory) (c .waits))) 0
+taken c = eqb (verdictNumber (runVerdict (c .memory) (boardOf c))) 0
 
 abbrev allTaken : List Case → Bool
 allTaken [] = true
 allTaken (c ∷ cs) = taken c && allTaken cs
 
-module _ (c : Case) (t : T (taken c)) (p : T (passes c)) {r : RunResult} {words : List ℕ} (h : Runs (c .memory) (c .waits) (machineOf (startOf c)) 1 words r) where
-  verdict : runVerdict (c .memory) (c .waits) ≡ Accepted
-  verdict = accepted (runVerdict (c .memory) (c .waits)) (eqb→eq _ 0 t)
+module _ (c : Case) (t : T (taken c)) (p : T (passes c)) {r : RunResult} {words : List ℕ} (h : Runs (c .memory) (boardOf c) (machineOf (startOf c)) 1 words r) where
+  verdict : runVerdict (c .memory) (boardOf c) ≡ Accepted
+  verdict = accepted (runVerdict (c .memory) (boardOf c)) (eqb→eq _ 0 t)
 
   abbrev ran : Run
-  ran = interpret (c .waits) 1 (interpreterFrom (startOf c) (c .memory))
+  ran = interpret (boardOf c) 1 (interpreterFrom (startOf c) (c .memory))
 
   abbrev clocked : ℕ → Gate
-  clocked k = gateRun (c .waits) k (gateFrom (startOf c) (c .memory))
+  clocked k = gateRun (boardOf c) k (gateFrom (startOf c) (c .memory))
 
   -- the two halves of the model's test
   abbrev ranWell : Bool
@@ -47,11 +52,11 @@ module _ (c : Case) (t : T (taken c)) (p : T (passes c)) {r : RunResult} {words 
 
   holds : Holds c r words
   holds =
-      rw (returned (c .memory) (c .waits) (machineOf (startOf c)) 1 verdict h, left-in (c .memory) (c .waits) (machineOf (startOf c)) 1 verdict h)
+      rw (returned (c .memory) (boardOf c) (machineOf (startOf c)) 1 verdict h, left-in (c .memory) (boardOf c) (machineOf (startOf c)) 1 verdict h)
       (record {
         run = and-l ranWell clockedWell p;
         clocks = λ g words′ d.
-            let q = carried-out (c .memory) (c .waits) (startOf c) (ran .clocks) (same-verdict (c .memory) (c .waits) (startOf c) (record { row = refl; position = refl; begun = refl; left = refl }) ∙ verdict) d in
+            let q = carried-out (c .memory) (boardOf c) (startOf c) (ran .clocks) d (same-verdict (c .memory) (boardOf c) (startOf c) (record { row = refl; position = refl; begun = refl; left = refl }) ∙ verdict) in
             rw (ap gateMark q) (and-r ranWell clockedWell p);
       })
 

@@ -4,6 +4,7 @@ use mathlib.Core.Path.{ap, subst, _∙_}
 use mathlib.Core.List.{List}
 use native.Mathlib.Omega.{arith}
 use Rattle.model.specs.declared.GateState.{GateState}
+use Rattle.model.specs.Board.{Board}
 use Rattle.model.specs.Refusals.{verdictNumber}
 use Rattle.model.specs.Agreement.{machineOf}
 use Rattle.interpreter.specs.Calls.{runReturned, runWords}
@@ -12,13 +13,13 @@ use Rattle.gate_machine.proofs.Answers.{gate-contracted}
 use Rattle.agreement.specs.Series.{Series, one, more}
 use Rattle.agreement.specs.Supposed.{InCalls, CanBeMet}
 
-module _ (memory waits : List ℕ) (start : GateState) where
+module _ (memory : List ℕ) (board : Board) (start : GateState) where
   -- a series of k clocks in all
   record Clocked (k : ℕ) : Type 0 where
     finished : ℕ
     state : GateState
     words : List ℕ
-    series : Series waits memory start k finished state words
+    series : Series board memory start k finished state words
     calls : InCalls series
 
   clocked : (k : ℕ) → Clocked k
@@ -28,7 +29,7 @@ module _ (memory waits : List ℕ) (start : GateState) where
         finished = _;
         state = _;
         words = _;
-        series = one (gate-contracted memory waits start 0);
+        series = one (gate-contracted memory board start 0);
         calls = omega arith;
       }
   clocked (suc k) =
@@ -38,18 +39,18 @@ module _ (memory waits : List ℕ) (start : GateState) where
         finished = _;
         state = _;
         words = _;
-        series = more (c .series) (gate-contracted (c .words) waits (c .state) 1);
+        series = more (c .series) (gate-contracted (c .words) board (c .state) 1);
         calls = (c .calls, omega arith);
       } in
       subst Clocked (omega arith) next
 
 pub can-be-met : CanBeMet
-can-be-met memory waits start n k v =
-    let c = clocked memory waits start k in
-    let h = run-contracted memory waits (machineOf start) n in
+can-be-met memory board start n k v =
+    let c = clocked memory board start k in
+    let h = run-contracted memory board (machineOf start) n in
     record {
-      result = runReturned memory waits (machineOf start) n;
-      words = runWords memory waits (machineOf start) n;
+      result = runReturned memory board (machineOf start) n;
+      words = runWords memory board (machineOf start) n;
       runs = h;
       carried = h .number ∙ ap verdictNumber v;
       finished = c .finished;

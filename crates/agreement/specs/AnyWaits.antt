@@ -1,8 +1,10 @@
--- Two runs from one start under different wait lists, in the terms of what the two calls return by their contract. Document 01, "Clocks".
+-- Two runs from one start under different wait lists over one bottom, in the terms of what the two calls return by their contract. Document
+-- 01, "Clocks"; CR 6.
 use Prim.Native.Nat.{ℕ}
 use mathlib.Core.Path.{_≡_}
 use mathlib.Core.List.{List}
 use Rattle.model.specs.declared.Machine.{Machine}
+use Rattle.model.specs.Board.{boardWith}
 use Rattle.interpreter.specs.declared.RunResult.{RunResult}
 use Rattle.interpreter.specs.Calls.{Runs, runNumber}
 
@@ -13,10 +15,10 @@ pub record Alike (words : List ℕ) (r : RunResult) (words′ : List ℕ) (r′ 
   pub ran : r .ran ≡ r′ .ran
   pub memory : words ≡ words′
 
--- for every memory, start and n, under any two wait lists, where neither run is turned down
+-- for every memory, bottom, start and n, under any two wait lists, where neither run is turned down
 abbrev pub AnyWaits : Type 0
 AnyWaits =
-    (memory waits waits′ : List ℕ) (start : Machine) (n : ℕ)
-    → (r : RunResult) (words : List ℕ) → Runs memory waits start n words r → runNumber (r .answer) ≡ 0
-    → (r′ : RunResult) (words′ : List ℕ) → Runs memory waits′ start n words′ r′ → runNumber (r′ .answer) ≡ 0
+    (memory : List ℕ) (bottom : ℕ) (waits waits′ : List ℕ) (start : Machine) (n : ℕ)
+    → (r : RunResult) (words : List ℕ) → Runs memory (boardWith bottom waits) start n words r → runNumber (r .answer) ≡ 0
+    → (r′ : RunResult) (words′ : List ℕ) → Runs memory (boardWith bottom waits′) start n words′ r′ → runNumber (r′ .answer) ≡ 0
     → Alike words r words′ r′

@@ -4,6 +4,7 @@ use Prim.Native.Nat.{ℕ}
 use mathlib.Core.Path.{_≡_}
 use mathlib.Core.List.{List}
 use Rattle.model.specs.declared.GateState.{GateState}
+use Rattle.model.specs.Board.{Board}
 use Rattle.gate_machine.specs.declared.GateOutcome.{GateOutcome}
 use Rattle.gate_machine.specs.declared.GateResult.{GateResult}
 use Rattle.gate_machine.specs.Calls.{GateRuns}
@@ -15,16 +16,16 @@ pub record Unchanged (memory : List ℕ) (s : GateState) (memory′ : List ℕ) 
   pub words : memory′ ≡ memory
   pub finished : f ≡ 0
 
--- for every memory, wait list and state in row 12, whether the call is turned down or not: any number of clocks
+-- for every memory, board and state in row 12, whether the call is turned down or not: any number of clocks
 abbrev pub HaltedRun : Type 0
 HaltedRun =
-    (memory waits : List ℕ) (s : GateState) (k : ℕ) → s .row ≡ 12
-    → (r : GateResult) (memory′ : List ℕ) → GateRuns memory waits s k memory′ r
+    (memory : List ℕ) (board : Board) (s : GateState) (k : ℕ) → s .row ≡ 12
+    → (r : GateResult) (memory′ : List ℕ) → GateRuns memory board s k memory′ r
     → Unchanged memory s memory′ (r .state) (r .outcome .finished)
 
 -- and one clock on a state that is lent
 abbrev pub HaltedClock : Type 0
 HaltedClock =
-    (memory waits : List ℕ) (s : GateState) → s .row ≡ 12
-    → (r : GateOutcome) (s′ : GateState) (memory′ : List ℕ) → LentClock memory waits s memory′ s′ r
+    (memory : List ℕ) (board : Board) (s : GateState) → s .row ≡ 12
+    → (r : GateOutcome) (s′ : GateState) (memory′ : List ℕ) → LentClock memory board s memory′ s′ r
     → Unchanged memory s memory′ s′ (r .finished)

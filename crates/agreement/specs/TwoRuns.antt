@@ -1,11 +1,12 @@
 -- Demand 3 for the public calls `interpreter::run` and `gate_machine::run`, in the terms of what they return by their contracts. Document
--- 01, "Clocks"; CR 5.
+-- 01, "Clocks"; CR 5 and CR 6.
 use Prim.Native.Nat.{ℕ, _≤_}
 use mathlib.Core.Path.{_≡_}
 use mathlib.Core.Logic.{_↔_}
 use mathlib.Core.Bool.{false}
 use mathlib.Core.List.{List}
 use Rattle.model.specs.declared.GateState.{GateState}
+use Rattle.model.specs.Board.{Board}
 use Rattle.model.specs.GateMachine.{gate}
 use Rattle.model.specs.Refusals.{runVerdict, gateVerdict}
 use Rattle.model.specs.Agreement.{Mark, markOf, gateMark, machineOf}
@@ -34,15 +35,15 @@ pub record InStep (n k : ℕ) (r : RunResult) (words : List ℕ) (f : ℕ) (s : 
   pub outside : r .answer ≡ RunAnswer.Outside → f ≤ r .ran
   pub halted : r .answer ≡ RunAnswer.NoInstruction → f ≤ r .ran
 
--- For every memory, wait list and start that the interpreter's run does not turn down, for every n, and for every k, done in one gate run
+-- For every memory, board and start that the interpreter's run does not turn down, for every n, and for every k, done in one gate run
 -- or in a series of them: k is the sum of the clocks of the runs and may pass 64 bits, and f is the sum of their counts.
 abbrev pub TwoRuns : Type 0
 TwoRuns =
-    (memory waits : List ℕ) (start : GateState) (n k : ℕ) → Start start
-    → (r : RunResult) (words : List ℕ) → Runs memory waits (machineOf start) n words r → runNumber (r .answer) ≡ 0
-    → (f : ℕ) (s : GateState) (words′ : List ℕ) → Series waits memory start k f s words′
+    (memory : List ℕ) (board : Board) (start : GateState) (n k : ℕ) → Start start
+    → (r : RunResult) (words : List ℕ) → Runs memory board (machineOf start) n words r → runNumber (r .answer) ≡ 0
+    → (f : ℕ) (s : GateState) (words′ : List ℕ) → Series board memory start k f s words′
     → InStep n k r words f s words′
 
 -- the two runs turn the same starts down, for the same reason
 abbrev pub SameVerdict : Type 0
-SameVerdict = (memory waits : List ℕ) (start : GateState) → Start start → gateVerdict memory waits start ≡ runVerdict memory waits
+SameVerdict = (memory : List ℕ) (board : Board) (start : GateState) → Start start → gateVerdict memory board start ≡ runVerdict memory board

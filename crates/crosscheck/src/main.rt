@@ -1,7 +1,7 @@
 // Clocks on a gate state that is lent, one at a time, and the arithmetic unit of gates with each adder, on cases that are read; what comes out is
 // printed. The file `stdout` holds what an independent emulator made of the same cases; `stdin` holds the cases, as words of four bytes, lowest
 // first. The first word of a case tells its kind:
-//   1, M, memory, W, waits, r0..r7, flags, row, instruction, address, a, b, result, position, begun, left, k
+//   1, M, memory, bottom, W, waits, r0..r7, flags, row, instruction, address, a, b, result, position, begun, left, k
 //     k clocks (`lent_clock::clock_once`). A wait takes a word; flags are one number, C 8, V 4, N 2, Z 1
 //   2, operation, a, b, carry
 //     one operation (`gates::unit_around`), with the ripple adder and with the adder by halves

@@ -71,6 +71,7 @@ fn print_result(result: GateResult) {
 // lent ANSWER finished, the state, m0..
 pub fn state_case() {
     let memory = next_list();
+    let bottom = next_word();
     let waits = next_list();
     let start = next_state();
     let clocks = next_number(MOST_CLOCKS) as u64;
@@ -78,6 +79,7 @@ pub fn state_case() {
     let entries = waits.waits;
     let result = clock_by_clock(
         front_words(&mut words, memory.count),
+        bottom,
         front_waits(&entries, waits.count),
         start,
         clocks,

@@ -1,6 +1,6 @@
 -- Generated cases of both engines: inputs, what the reference emulator gave, and whether the model's definitions give the same. A test of
 -- the definitions of document 01, "Machine and instruction word", "Clocks", "File run and journal" and "Why a call is turned down", and of
--- document 02, CR 3 and CR 5.
+-- document 02, CR 3, CR 5 and CR 6.
 use Prim.Native.Nat.{ℕ, suc}
 use mathlib.Core.Bool.{Bool, true, false, cond, _&&_}
 use mathlib.Core.List.{List, [], _∷_}
@@ -9,6 +9,7 @@ use lib.ListN.{getD}
 use Rattle.model.specs.declared.GateState.{GateState}
 use Rattle.model.specs.declared.Ending.{Ending}
 use Rattle.model.specs.declared.Ending.the-variants.{Finished, Outside, NoInstruction}
+use Rattle.model.specs.Board.{boardWith}
 use Rattle.model.specs.Interpreter.{begin, interpret}
 use Rattle.model.specs.Journal.{journalPairs, journalWords}
 use Rattle.model.specs.GateMachine.{gateRun}
@@ -30,16 +31,17 @@ endingNumber Outside = 1
 endingNumber NoInstruction = 2
 
 pub data RunCase : Type 0 where
-  runCase : (memory regs : List ℕ) (flags : ℕ) (waits : List ℕ) (n : ℕ) (memory′ regs′ : List ℕ) (flags′ : ℕ) (journal : List ℕ) (ran clocks ending : ℕ) → RunCase
+  runCase : (memory regs : List ℕ) (flags bottom : ℕ) (waits : List ℕ) (n : ℕ) (memory′ regs′ : List ℕ) (flags′ : ℕ) (journal : List ℕ) (ran clocks ending : ℕ) → RunCase
 
 abbrev pub runHolds : RunCase → Bool
-runHolds (runCase memory regs flags waits n memory′ regs′ flags′ journal ran clocks ending) =
+runHolds (runCase memory regs flags bottom waits n memory′ regs′ flags′ journal ran clocks ending) =
     let start = begin (packedMachine regs flags) memory 0 in
-    let r = interpret waits n start in
+    let board = boardWith bottom waits in
+    let r = interpret board n start in
     same (r .memory) memory′
     && same (r .machine .regs) regs′
     && eqb (packedOf (r .machine .flags)) flags′
-    && same (journalWords (journalPairs waits n start)) journal
+    && same (journalWords (journalPairs board n start)) journal
     && eqb (r .ran) ran
     && eqb (r .clocks) clocks
     && eqb (endingNumber (r .ending)) ending
@@ -47,7 +49,7 @@ runHolds (runCase memory regs flags waits n memory′ regs′ flags′ journal r
 -- ---- gate runs; a state is its registers, and in a list its flags, row, latches, position, access begun, clocks left
 
 pub data GateCase : Type 0 where
-  gateCase : (memory waits regs latches : List ℕ) (clocks : ℕ) (memory′ regs′ latches′ : List ℕ) (finished : ℕ) → GateCase
+  gateCase : (memory : List ℕ) (bottom : ℕ) (waits regs latches : List ℕ) (clocks : ℕ) (memory′ regs′ latches′ : List ℕ) (finished : ℕ) → GateCase
 
 abbrev pub caseState : List ℕ → List ℕ → GateState
 caseState regs latches =
@@ -69,20 +71,21 @@ abbrev pub latchesOf : GateState → List ℕ
 latchesOf s = packedOf (s .flags) ∷ latchWords s
 
 abbrev pub gateHolds : GateCase → Bool
-gateHolds (gateCase memory waits regs latches clocks memory′ regs′ latches′ finished) =
-    let g = gateRun waits clocks (gateFrom (caseState regs latches) memory) in
+gateHolds (gateCase memory bottom waits regs latches clocks memory′ regs′ latches′ finished) =
+    let g = gateRun (boardWith bottom waits) clocks (gateFrom (caseState regs latches) memory) in
     same (g .memory) memory′
     && same (g .state .regs) regs′
     && same (latchesOf (g .state)) latches′
     && eqb (g .finished) finished
 
--- ---- whether a gate run takes a memory and a state: 0, or the refusal's number, 1 or 4
+-- ---- whether a gate run takes a memory with its bottom and a state: 0, or the refusal's number, 1, 21 or 4
 
 pub data VerdictCase : Type 0 where
-  verdictCase : (memory waits latches : List ℕ) (number : ℕ) → VerdictCase
+  verdictCase : (memory : List ℕ) (bottom : ℕ) (waits latches : List ℕ) (number : ℕ) → VerdictCase
 
 abbrev pub verdictHolds : VerdictCase → Bool
-verdictHolds (verdictCase memory waits latches number) = eqb (verdictNumber (gateVerdict memory waits (caseState [] latches))) number
+verdictHolds (verdictCase memory bottom waits latches number) =
+    eqb (verdictNumber (gateVerdict memory (boardWith bottom waits) (caseState [] latches))) number
 
 -- ---- the numbers, from i, of the cases that do not hold
 

@@ -1,5 +1,5 @@
 -- What the loop that both runs share leaves: the state, the memory and the journal of `interpret`. Document 01, "Machine and instruction
--- word", "Clocks" and "File run and journal".
+-- word", "Clocks" and "File run and journal"; CR 6.
 use Prim.Native.Nat.{ℕ}
 use mathlib.Core.Path.{_≡_}
 use mathlib.Core.List.{List}
@@ -7,6 +7,7 @@ use lib.ListN.{length}
 use lib.Seq.{sets}
 use Rattle.model.specs.declared.Machine.{Machine}
 use Rattle.model.specs.declared.Ending.{Ending}
+use Rattle.model.specs.Board.{Board}
 use Rattle.model.specs.Interpreter.{Run, begin, interpret}
 use Rattle.model.specs.Journal.{journalPairs, journalWords}
 use Rattle.engine.specs.declared.Ended.{Ended}
@@ -18,7 +19,7 @@ endedAt ending m ran clocks pairs =
 abbrev pub endedOf : Run → ℕ → Ended
 endedOf r pairs = endedAt (r .ending) (r .machine) (r .ran) (r .clocks) pairs
 
-pub record EngineEnds (memory waits journal : List ℕ) (start : Machine) (count : ℕ) (memory′ journal′ : List ℕ) (e : Ended) : Type 0 where
-  pub result : e ≡ endedOf (interpret waits count (begin start memory 0)) (length (journalPairs waits count (begin start memory 0)))
-  pub words : memory′ ≡ interpret waits count (begin start memory 0) .memory
-  pub places : journal′ ≡ sets journal 0 (journalWords (journalPairs waits count (begin start memory 0)))
+pub record EngineEnds (memory : List ℕ) (board : Board) (journal : List ℕ) (start : Machine) (count : ℕ) (memory′ journal′ : List ℕ) (e : Ended) : Type 0 where
+  pub result : e ≡ endedOf (interpret board count (begin start memory 0)) (length (journalPairs board count (begin start memory 0)))
+  pub words : memory′ ≡ interpret board count (begin start memory 0) .memory
+  pub places : journal′ ≡ sets journal 0 (journalWords (journalPairs board count (begin start memory 0)))

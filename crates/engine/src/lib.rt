@@ -11,6 +11,7 @@ use packed_flags::unpacked;
 use step::goes_on;
 use step::step;
 ghost use mathlib.Core.Path.{_≡_};
+ghost use Rattle.model.specs.Board.{boardWith};
 ghost use Rattle.model.specs.Packed.{packedMachine};
 ghost use Rattle.engine.specs.Engine.{endedAt, EngineEnds};
 
@@ -40,12 +41,13 @@ fn run_end(ending: Ending, regs: [u32; 8], flags: u32, ran: u32, clocks: u64, pa
 // Up to `count` instructions. A journal of 2 * `count` places gets every pair; callers that want none lend an empty one.
 pub fn engine(
     memory: &mut [u32],
+    bottom: u32,
     waits: &[u16],
     journal: &mut [u32],
     start: Machine,
     count: u32,
 ) -> Ended
-    ensures { λ r. ⌜ EngineEnds (now (memory .entry)) (now (waits .entry)) (now (journal .entry)) start count (now (memory .exit)) (now (journal .exit)) r ⌝ }
+    ensures { λ r. ⌜ EngineEnds (now (memory .entry)) (boardWith bottom (now (waits .entry))) (now (journal .entry)) start count (now (memory .exit)) (now (journal .exit)) r ⌝ }
 {
     let mut regs = start.regs;
     let first = start.flags;
@@ -55,7 +57,7 @@ pub fn engine(
     let mut pairs: u32 = 0;
     let mut i: u32 = 0;
     while i < count {
-        let s = step(&mut regs, memory, journal, pairs, flags);
+        let s = step(&mut regs, memory, bottom, journal, pairs, flags);
         let ending = s.ending;
         if !goes_on(ending) {
             return run_end(ending, regs, flags, i, clocks, pairs);

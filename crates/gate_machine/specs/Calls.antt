@@ -1,11 +1,12 @@
 -- The public call, a gate run: its result and the memory at exit, carried out or turned down. Document 01, "Clocks" and "Why a call is
--- turned down".
+-- turned down"; CR 6.
 use Prim.Native.Nat.{ℕ}
 use mathlib.Core.Path.{_≡_}
 use mathlib.Core.List.{List}
 use Rattle.model.specs.declared.GateState.{GateState}
 use Rattle.model.specs.declared.Verdict.{Verdict}
 use Rattle.model.specs.declared.Verdict.the-variants.{Accepted, Refused}
+use Rattle.model.specs.Board.{Board}
 use Rattle.model.specs.GateMachine.{Gate, gateRun}
 use Rattle.model.specs.Refusals.{refusalNumber, verdictNumber, leftBy, gateVerdict}
 use Rattle.model.specs.Agreement.{gateFrom}
@@ -17,20 +18,20 @@ abbrev pub gateResult : Verdict → GateState → Gate → GateResult
 gateResult Accepted start g = record { outcome = record { answer = GateAnswer.Ran; finished = g .finished }; state = g .state }
 gateResult (Refused why) start g = record { outcome = record { answer = GateAnswer.Refused why; finished = 0 }; state = start }
 
--- document 01's number of an answer; 0 where the call was carried out
+-- the papers' number of an answer; 0 where the call was carried out
 abbrev pub gateNumber : GateAnswer → ℕ
 gateNumber GateAnswer.Ran = 0
 gateNumber (GateAnswer.Refused why) = refusalNumber why
 
 -- what a gate run of so many clocks returns, and the memory that it leaves
-unfoldable pub gateReturned : (memory waits : List ℕ) → GateState → (clocks : ℕ) → GateResult
-gateReturned memory waits start clocks = gateResult (gateVerdict memory waits start) start (gateRun waits clocks (gateFrom start memory))
+unfoldable pub gateReturned : (memory : List ℕ) → Board → GateState → (clocks : ℕ) → GateResult
+gateReturned memory board start clocks = gateResult (gateVerdict memory board start) start (gateRun board clocks (gateFrom start memory))
 
-unfoldable pub gateWords : (memory waits : List ℕ) → GateState → (clocks : ℕ) → List ℕ
-gateWords memory waits start clocks = leftBy (gateVerdict memory waits start) (gateRun waits clocks (gateFrom start memory) .memory) memory
+unfoldable pub gateWords : (memory : List ℕ) → Board → GateState → (clocks : ℕ) → List ℕ
+gateWords memory board start clocks = leftBy (gateVerdict memory board start) (gateRun board clocks (gateFrom start memory) .memory) memory
 
 -- what a gate run promises: its result, the memory's words, and the number for why it was turned down
-pub record GateRuns (memory waits : List ℕ) (start : GateState) (clocks : ℕ) (memory′ : List ℕ) (r : GateResult) : Type 0 where
-  pub result : r ≡ gateReturned memory waits start clocks
-  pub words : memory′ ≡ gateWords memory waits start clocks
-  pub number : gateNumber (r .outcome .answer) ≡ verdictNumber (gateVerdict memory waits start)
+pub record GateRuns (memory : List ℕ) (board : Board) (start : GateState) (clocks : ℕ) (memory′ : List ℕ) (r : GateResult) : Type 0 where
+  pub result : r ≡ gateReturned memory board start clocks
+  pub words : memory′ ≡ gateWords memory board start clocks
+  pub number : gateNumber (r .outcome .answer) ≡ verdictNumber (gateVerdict memory board start)

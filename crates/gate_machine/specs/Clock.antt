@@ -1,10 +1,11 @@
--- One clock, as the code takes it apart: the access protocol, then the row's work. Document 01, "Clocks".
+-- One clock, as the code takes it apart: the access protocol, then the row's work. Document 01, "Clocks"; CR 6.
 use Prim.Native.Nat.{ℕ}
 use mathlib.Core.Path.{_≡_}
 use mathlib.Core.Bool.{Bool, true, false, not, cond}
 use mathlib.Core.List.{List}
 use lib.Dec.{eqb}
 use Rattle.model.specs.declared.GateState.{GateState}
+use Rattle.model.specs.Board.{Board}
 use Rattle.model.specs.GateMachine.{gate, remaining, positionNow, clock}
 use Rattle.gate_rows.specs.Work.{counted}
 use Rattle.gate_machine.specs.declared.access.Grant.{Grant}
@@ -25,10 +26,10 @@ grantOf access here waits s =
     (untouchedAt true s)
 
 -- state, memory and count after one clock of the model
-abbrev pub Ticks : List ℕ → GateState → List ℕ → GateState → Bool → List ℕ → Type 0
-Ticks waits s memory s′ finished memory′ =
-    (f : ℕ) → gate s′ memory′ (counted finished f) ≡ clock waits (gate s memory f)
+abbrev pub Ticks : Board → GateState → List ℕ → GateState → Bool → List ℕ → Type 0
+Ticks board s memory s′ finished memory′ =
+    (f : ℕ) → gate s′ memory′ (counted finished f) ≡ clock board (gate s memory f)
 
 -- where the machine is stuck, no clock changes anything
-abbrev pub Stands : List ℕ → GateState → List ℕ → Bool → Type 0
-Stands waits s memory stuck = stuck ≡ true → (f : ℕ) → clock waits (gate s memory f) ≡ gate s memory f
+abbrev pub Stands : Board → GateState → List ℕ → Bool → Type 0
+Stands board s memory stuck = stuck ≡ true → (f : ℕ) → clock board (gate s memory f) ≡ gate s memory f

@@ -8,6 +8,7 @@ use model::GateState;
 use model::Refusal;
 use model::Verdict;
 use verdicts::gate_verdict;
+ghost use Rattle.model.specs.Board.{boardWith};
 ghost use Rattle.gate_machine.specs.Calls.{GateRuns};
 
 pub enum GateAnswer {
@@ -27,10 +28,16 @@ pub struct GateResult {
 }
 
 // All the clocks that are asked for, unless the call is turned down.
-pub fn run(memory: &mut [u32], waits: &[u16], start: GateState, clocks: u64) -> GateResult
-    ensures { λ r. ⌜ GateRuns (now (memory .entry)) (now (waits .entry)) start clocks (now (memory .exit)) r ⌝ }
+pub fn run(
+    memory: &mut [u32],
+    bottom: u32,
+    waits: &[u16],
+    start: GateState,
+    clocks: u64,
+) -> GateResult
+    ensures { λ r. ⌜ GateRuns (now (memory .entry)) (boardWith bottom (now (waits .entry))) start clocks (now (memory .exit)) r ⌝ }
 {
-    match gate_verdict(&*memory, waits, start) {
+    match gate_verdict(&*memory, bottom, waits, start) {
         Verdict::Refused(why) => GateResult {
             outcome: GateOutcome {
                 answer: GateAnswer::Refused(why),
@@ -39,7 +46,7 @@ pub fn run(memory: &mut [u32], waits: &[u16], start: GateState, clocks: u64) -> 
             state: start,
         },
         Verdict::Accepted => {
-            let end = run_clocks(memory, waits, start, clocks);
+            let end = run_clocks(memory, bottom, waits, start, clocks);
             let state = end.state;
             GateResult {
                 outcome: GateOutcome {

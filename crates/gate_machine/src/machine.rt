@@ -15,6 +15,7 @@ ghost use mathlib.Core.Path.{_≡_};
 ghost use mathlib.Core.Bool.{cond};
 ghost use Prim.Native.Nat.{_+_, _≤_, _<_};
 ghost use lib.ListN.{length};
+ghost use Rattle.model.specs.Board.{boardWith};
 ghost use Rattle.model.specs.GateMachine.{gate, gateRun};
 ghost use Rattle.model.specs.Refusals.{mostWaits, gateVerdict};
 ghost use Rattle.model.specs.Agreement.{gateFrom};
@@ -35,9 +36,16 @@ pub struct GateEnd {
 }
 
 // The step is the one of the state's row.
-fn tick(s: Latches, step: Step, regs: &mut [u32; 8], memory: &mut [u32], waits: &[u16]) -> Ticked
+fn tick(
+    s: Latches,
+    step: Step,
+    regs: &mut [u32; 8],
+    memory: &mut [u32],
+    bottom: u32,
+    waits: &[u16],
+) -> Ticked
     requires { ⌜ (step ≡ stepOf (s .row)) × (length (now waits) ≤ mostWaits) ⌝ }
-    ensures { λ r. ⌜ Ticks (now (waits .entry)) (stateOf (now (regs .entry)) s) (now (memory .entry)) (stateOf (now (regs .exit)) (r .latches)) (r .finished) (now (memory .exit)) × Stands (now (waits .entry)) (stateOf (now (regs .exit)) (r .latches)) (now (memory .exit)) (r .stuck) ⌝ }
+    ensures { λ r. ⌜ Ticks (boardWith bottom (now (waits .entry))) (stateOf (now (regs .entry)) s) (now (memory .entry)) (stateOf (now (regs .exit)) (r .latches)) (r .finished) (now (memory .exit)) × Stands (boardWith bottom (now (waits .entry))) (stateOf (now (regs .exit)) (r .latches)) (now (memory .exit)) (r .stuck) ⌝ }
 {
     let Step(_, _, _, mark) = step;
     let grant = granted(s, mark == ACCESS, memory.len(), waits);
@@ -52,7 +60,7 @@ fn tick(s: Latches, step: Step, regs: &mut [u32; 8], memory: &mut [u32], waits: 
             stuck: grant.stuck,
         };
     }
-    let u = work(t, step, regs, memory);
+    let u = work(t, step, regs, memory, bottom);
     Ticked {
         latches: u,
         finished: mark == FINISHES,
@@ -69,9 +77,15 @@ fn clocks_done(i: u64, clocks: u64, stuck: bool) -> u64
 }
 
 // The step table and the registers stay in place: a clock copies neither.
-pub fn run_clocks(memory: &mut [u32], waits: &[u16], start: GateState, clocks: u64) -> GateEnd
-    requires { ⌜ gateVerdict (now memory) (now waits) start ≡ Verdict.Accepted ⌝ }
-    ensures { λ r. ⌜ gate (r .state) (now (memory .exit)) (r .finished) ≡ gateRun (now (waits .entry)) clocks (gateFrom start (now (memory .entry))) ⌝ }
+pub fn run_clocks(
+    memory: &mut [u32],
+    bottom: u32,
+    waits: &[u16],
+    start: GateState,
+    clocks: u64,
+) -> GateEnd
+    requires { ⌜ gateVerdict (now memory) (boardWith bottom (now waits)) start ≡ Verdict.Accepted ⌝ }
+    ensures { λ r. ⌜ gate (r .state) (now (memory .exit)) (r .finished) ≡ gateRun (boardWith bottom (now (waits .entry))) clocks (gateFrom start (now (memory .entry))) ⌝ }
 {
     let table = steps();
     let mut regs = start.regs;
@@ -80,7 +94,7 @@ pub fn run_clocks(memory: &mut [u32], waits: &[u16], start: GateState, clocks: u
     let mut i: u64 = 0;
     while i < clocks {
         let step = table[s.row as usize];
-        let t = tick(s, step, &mut regs, memory, waits);
+        let t = tick(s, step, &mut regs, memory, bottom, waits);
         let next = t.latches;
         s = next;
         finished += t.finished as u64;

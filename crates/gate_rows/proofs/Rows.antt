@@ -16,28 +16,28 @@ use Rattle.gate_rows.specs.declared.latches.Latches.{Latches}
 use Rattle.gate_rows.specs.Work.{stateOf, Becomes, readRow, operandRow, nextRows, leads, Works}
 
 -- the model's row n, on registers, latches and memory
-abbrev rowOf : ℕ → Latches → List ℕ → List ℕ → Gate
-rowOf n s regs memory = getD rows n (λ g. g) (gate (stateOf regs s) memory 0)
+abbrev rowOf : (bottom : ℕ) → ℕ → Latches → List ℕ → List ℕ → Gate
+rowOf bottom n s regs memory = getD (rows bottom) n (λ g. g) (gate (stateOf regs s) memory 0)
 
 -- what a row's function leaves is the work of the machine in that row
-pub by : {s : Latches} {step : Step} {regs memory : List ℕ} (n : ℕ) → s .row ≡ n
+pub by : {bottom : ℕ} {s : Latches} {step : Step} {regs memory : List ℕ} (n : ℕ) → s .row ≡ n
     → {s′ : Latches} {regs′ memory′ : List ℕ}
-    → stateOf regs′ s′ ≡ withRow (leads step (stateOf regs s) memory n) (rowOf n s regs memory .state) → memory′ ≡ rowOf n s regs memory .memory
-    → Works s step regs memory s′ regs′ memory′
+    → stateOf regs′ s′ ≡ withRow (leads step (stateOf regs s) memory n) (rowOf bottom n s regs memory .state) → memory′ ≡ rowOf bottom n s regs memory .memory
+    → Works bottom s step regs memory s′ regs′ memory′
 unfolding work
-by {s} {step} {regs} {memory} n e p q =
+by {bottom} {s} {step} {regs} {memory} n e p q =
     record {
-      state = p ∙ ap (λ (k : ℕ). withRow (leads step (stateOf regs s) memory k) (rowOf k s regs memory .state)) (sym e);
-      words = q ∙ ap (λ (k : ℕ). rowOf k s regs memory .memory) (sym e);
+      state = p ∙ ap (λ (k : ℕ). withRow (leads step (stateOf regs s) memory k) (rowOf bottom k s regs memory .state)) (sym e);
+      words = q ∙ ap (λ (k : ℕ). rowOf bottom k s regs memory .memory) (sym e);
     }
 
 -- past the table there is no work
-pub past-table : {s : Latches} {step : Step} {regs memory : List ℕ} → NoneOf 0 13 (s .row) → Works s step regs memory s regs memory
+pub past-table : {bottom : ℕ} {s : Latches} {step : Step} {regs memory : List ℕ} → NoneOf 0 13 (s .row) → Works bottom s step regs memory s regs memory
 unfolding work
-past-table {s} {step} {regs} {memory} h =
+past-table {bottom} {s} {step} {regs} {memory} h =
     let g = gate (stateOf regs s) memory 0 in
     let high = past-all 0 13 (s .row) h zero-le in
-    let e : getD rows (s .row) (λ h. h) ≡ (λ (h : Gate). h) = List·getD-eq-default rows (λ h. h) {n = s .row} high in
+    let e : getD (rows bottom) (s .row) (λ h. h) ≡ (λ (h : Gate). h) = List·getD-eq-default (rows bottom) (λ h. h) {n = s .row} high in
     let l : leads step (stateOf regs s) memory (s .row) ≡ s .row =
     List·getD-eq-default (nextRows step (stateOf regs s) memory) (s .row) {n = s .row} high in
     record {
@@ -67,13 +67,13 @@ module _ (step : Step) (o : Operand) (latch : ℕ → GateState → GateState) (
       go false = refl
 
 -- the rows that prepare A and B
-module _ {s : Latches} {step : Step} {regs memory : List ℕ} {s′ : Latches} {regs′ : List ℕ} {o : Operand} where
+module _ {bottom : ℕ} {s : Latches} {step : Step} {regs memory : List ℕ} {s′ : Latches} {regs′ : List ℕ} {o : Operand} where
   pub by-3 : s .row ≡ 3 → o ≡ operandA (s .instruction)
-      → stateOf regs′ s′ ≡ prepare o (memoryRow step) (directRow step) withA (stateOf regs s) → Works s step regs memory s′ regs′ memory
+      → stateOf regs′ s′ ≡ prepare o (memoryRow step) (directRow step) withA (stateOf regs s) → Works bottom s step regs memory s′ regs′ memory
   by-3 e f p = by 3 e (rw f at p ∙ prepares step (operandA (s .instruction)) withA (stateOf regs s) 4 5) refl
 
   pub by-5 : s .row ≡ 5 → o ≡ operandB (s .instruction)
-      → stateOf regs′ s′ ≡ prepare o (memoryRow step) (directRow step) withB (stateOf regs s) → Works s step regs memory s′ regs′ memory
+      → stateOf regs′ s′ ≡ prepare o (memoryRow step) (directRow step) withB (stateOf regs s) → Works bottom s step regs memory s′ regs′ memory
   by-5 e f p = by 5 e (rw f at p ∙ prepares step (operandB (s .instruction)) withB (stateOf regs s) 6 7) refl
 
 -- the operand latched is B where it is the second

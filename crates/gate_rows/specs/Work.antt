@@ -1,4 +1,4 @@
--- What a row's work leaves: the model's work, with the next row taken from a step of the table. Document 01, "Clocks"; CR 5.
+-- What a row's work leaves: the model's work, with the next row taken from a step of the table. Document 01, "Clocks"; CR 5 and CR 6.
 use Prim.Native.Nat.{ℕ, _+_}
 use mathlib.Core.Path.{_≡_}
 use mathlib.Core.Bool.{Bool, cond}
@@ -60,9 +60,9 @@ leads step s memory r = getD (nextRows step s memory) r (s .row)
 -- ---- the contract of a row's work
 
 -- the state and the memory after the model's work, but that the step says where it leads
-pub record Works (s : Latches) (step : Step) (regs memory : List ℕ) (s′ : Latches) (regs′ memory′ : List ℕ) : Type 0 where
-  pub state : stateOf regs′ s′ ≡ withRow (leads step (stateOf regs s) memory (s .row)) (work (gate (stateOf regs s) memory 0) .state)
-  pub words : memory′ ≡ work (gate (stateOf regs s) memory 0) .memory
+pub record Works (bottom : ℕ) (s : Latches) (step : Step) (regs memory : List ℕ) (s′ : Latches) (regs′ memory′ : List ℕ) : Type 0 where
+  pub state : stateOf regs′ s′ ≡ withRow (leads step (stateOf regs s) memory (s .row)) (work bottom (gate (stateOf regs s) memory 0) .state)
+  pub words : memory′ ≡ work bottom (gate (stateOf regs s) memory 0) .memory
 
 -- ---- the count
 

@@ -6,7 +6,7 @@ use operands::is_instruction;
 use operands::load;
 use operands::operand_a;
 use operands::operand_b;
-use operands::store;
+use operands::store_above;
 use registers::register_word;
 use registers::set_register;
 use registers::step_down;
@@ -92,8 +92,8 @@ fn prepare(s: Latches, o: Operand, second: bool, regs: &mut [u32; 8], step: Step
 }
 
 // The work of the row that the machine is in, with its step of the table; past the table there is none.
-pub fn work(s: Latches, step: Step, regs: &mut [u32; 8], memory: &mut [u32]) -> Latches
-    ensures { λ r. ⌜ Works s step (now (regs .entry)) (now (memory .entry)) r (now (regs .exit)) (now (memory .exit)) ⌝ }
+pub fn work(s: Latches, step: Step, regs: &mut [u32; 8], memory: &mut [u32], bottom: u32) -> Latches
+    ensures { λ r. ⌜ Works bottom s step (now (regs .entry)) (now (memory .entry)) r (now (regs .exit)) (now (memory .exit)) ⌝ }
 {
     let row = s.row;
     let word = s.instruction;
@@ -115,7 +115,7 @@ pub fn work(s: Latches, step: Step, regs: &mut [u32; 8], memory: &mut [u32]) -> 
             moved(s, next)
         }
         9 => {
-            store(memory, s.address as usize, s.result);
+            store_above(memory, bottom, s.address, s.result);
             moved(s, next)
         }
         10 => {

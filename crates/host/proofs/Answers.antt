@@ -5,6 +5,7 @@ use mathlib.Core.Bool.{Bool, true, false, not, cond}
 use mathlib.Core.List.{List}
 use lib.ListN.{length}
 use Rattle.model.specs.declared.GateState.{GateState}
+use Rattle.model.specs.Board.{Board, boardWith}
 use Rattle.interpreter.specs.declared.RunResult.{RunResult}
 use Rattle.interpreter.specs.declared.FileResult.{FileResult}
 use Rattle.interpreter.specs.Calls.{Runs, FileRuns}
@@ -35,16 +36,16 @@ module _ (machine result : List ℕ) (due : ℕ) (lent : MachineLent) (e : lent 
       let f = lent-fits (machine-tested machine (length result) due lent e) n in
       ends-fitting _ _ f machineSize due _ _ _ machine result _ _ _ (lent-tests machineSize due (length machine) (length result) f) g
 
-module _ (memory waits machine : List ℕ) (count : ℕ) (result : List ℕ) (lent : MachineLent)
+module _ (memory : List ℕ) (bottom : ℕ) (waits machine : List ℕ) (count : ℕ) (result : List ℕ) (lent : MachineLent)
     (e : lent ≡ machineLent machine (length result) runPlaces) where
-  pub run-misfit : not (lent .formed) ≡ true → RunCall memory waits machine count result memory machine result misfit
+  pub run-misfit : not (lent .formed) ≡ true → RunCall memory bottom waits machine count result memory machine result misfit
   run-misfit n =
       let f = lent-misfits (machine-tested machine (length result) runPlaces lent e) n in
       record { returned = rw f; words = rw f; parts = rw f; numbers = rw f }
 
-  pub run-formed : not (lent .formed) ≡ false → (r : RunResult) (memory′ : List ℕ) → Runs memory waits (lent .machine) count memory′ r
+  pub run-formed : not (lent .formed) ≡ false → (r : RunResult) (memory′ : List ℕ) → Runs memory (boardWith bottom waits) (lent .machine) count memory′ r
       → (machine′ result′ : List ℕ) (number : ℕ) → RunEnds r machine result machine′ result′ number
-      → RunCall memory waits machine count result memory′ machine′ result′ number
+      → RunCall memory bottom waits machine count result memory′ machine′ result′ number
   run-formed n r memory′ runs machine′ result′ number g =
       let f = lent-fits (machine-tested machine (length result) runPlaces lent e) n in
       let start = machine-start machine (length result) runPlaces lent e n in
@@ -57,17 +58,17 @@ module _ (memory waits machine : List ℕ) (count : ℕ) (result : List ℕ) (le
         numbers = rw (← same) (ends .2);
       }
 
-module _ (memory journal machine : List ℕ) (count : ℕ) (result : List ℕ) (lent : MachineLent)
+module _ (memory : List ℕ) (bottom : ℕ) (journal machine : List ℕ) (count : ℕ) (result : List ℕ) (lent : MachineLent)
     (e : lent ≡ machineLent machine (length result) runPlaces) where
-  pub file-misfit : not (lent .formed) ≡ true → FileCall memory journal machine count result memory journal machine result misfit
+  pub file-misfit : not (lent .formed) ≡ true → FileCall memory bottom journal machine count result memory journal machine result misfit
   file-misfit n =
       let f = lent-misfits (machine-tested machine (length result) runPlaces lent e) n in
       record { returned = rw f; words = rw f; places = rw f; parts = rw f; numbers = rw f }
 
   pub file-formed : not (lent .formed) ≡ false → (r : FileResult) (memory′ journal′ : List ℕ)
-      → FileRuns memory journal (lent .machine) count memory′ journal′ r → (machine′ result′ : List ℕ) (number : ℕ)
+      → FileRuns memory bottom journal (lent .machine) count memory′ journal′ r → (machine′ result′ : List ℕ) (number : ℕ)
       → FileEnds r machine result machine′ result′ number
-      → FileCall memory journal machine count result memory′ journal′ machine′ result′ number
+      → FileCall memory bottom journal machine count result memory′ journal′ machine′ result′ number
   file-formed n r memory′ journal′ runs machine′ result′ number g =
       let f = lent-fits (machine-tested machine (length result) runPlaces lent e) n in
       let start = machine-start machine (length result) runPlaces lent e n in
@@ -81,15 +82,15 @@ module _ (memory journal machine : List ℕ) (count : ℕ) (result : List ℕ) (
         numbers = rw (← same) (ends .2);
       }
 
-module _ (memory waits state : List ℕ) (clocks : ℕ) (result : List ℕ) (lent : StateLent) (e : lent ≡ stateLent state (length result)) where
-  pub gate-misfit : not (lent .formed) ≡ true → GateCall memory waits state clocks result memory state result misfit
+module _ (memory : List ℕ) (bottom : ℕ) (waits state : List ℕ) (clocks : ℕ) (result : List ℕ) (lent : StateLent) (e : lent ≡ stateLent state (length result)) where
+  pub gate-misfit : not (lent .formed) ≡ true → GateCall memory bottom waits state clocks result memory state result misfit
   gate-misfit n =
       let f = lent-misfits (state-tested state (length result) lent e) n in
       record { returned = rw f; words = rw f; parts = rw f; numbers = rw f }
 
-  pub gate-formed : not (lent .formed) ≡ false → (r : GateResult) (memory′ : List ℕ) → GateRuns memory waits (lent .state) clocks memory′ r
+  pub gate-formed : not (lent .formed) ≡ false → (r : GateResult) (memory′ : List ℕ) → GateRuns memory (boardWith bottom waits) (lent .state) clocks memory′ r
       → (state′ result′ : List ℕ) (number : ℕ) → GateEnds r state result state′ result′ number
-      → GateCall memory waits state clocks result memory′ state′ result′ number
+      → GateCall memory bottom waits state clocks result memory′ state′ result′ number
   gate-formed n r memory′ runs state′ result′ number g =
       let f = lent-fits (state-tested state (length result) lent e) n in
       let start = state-start state (length result) lent e n in
@@ -104,8 +105,8 @@ module _ (memory waits state : List ℕ) (clocks : ℕ) (result : List ℕ) (len
       }
 
 -- one clock on a lent state is a gate run of one
-pub lent-runs : {memory waits memory′ : List ℕ} {state : GateState} {r : GateResult} → LentClock memory waits state memory′ (r .state) (r .outcome)
-    → GateRuns memory waits state 1 memory′ r
+pub lent-runs : {memory : List ℕ} {board : Board} {memory′ : List ℕ} {state : GateState} {r : GateResult} → LentClock memory board state memory′ (r .state) (r .outcome)
+    → GateRuns memory board state 1 memory′ r
 lent-runs h =
     record {
       result = λ i. record { outcome = h .result i; state = h .advanced i };

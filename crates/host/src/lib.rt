@@ -17,18 +17,19 @@ ghost use Rattle.host_calls.specs.Calls.{RunCall, FileCall, GateCall, ReadCall,
 #[no_mangle]
 pub extern "C" fn fm8502_run(
     memory: &mut [u32],
+    bottom: u32,
     waits: &[u16],
     machine: &mut [u32],
     count: u32,
     result: &mut [u64],
 ) -> u32
-    ensures { λ r. ⌜ RunCall (now (memory .entry)) (now (waits .entry)) (now (machine .entry)) count (now (result .entry)) (now (memory .exit)) (now (machine .exit)) (now (result .exit)) r ⌝ }
+    ensures { λ r. ⌜ RunCall (now (memory .entry)) bottom (now (waits .entry)) (now (machine .entry)) count (now (result .entry)) (now (memory .exit)) (now (machine .exit)) (now (result .exit)) r ⌝ }
 {
     let lent = machine_lent(&*machine, result.len(), RUN_PLACES);
     if !lent.formed {
         return MISFIT;
     }
-    let r = interpreter::run(memory, waits, lent.machine, count);
+    let r = interpreter::run(memory, bottom, waits, lent.machine, count);
     end_run(r, machine, result)
 }
 
@@ -36,18 +37,19 @@ pub extern "C" fn fm8502_run(
 #[no_mangle]
 pub extern "C" fn fm8502_file_run(
     memory: &mut [u32],
+    bottom: u32,
     journal: &mut [u32],
     machine: &mut [u32],
     count: u32,
     result: &mut [u64],
 ) -> u32
-    ensures { λ r. ⌜ FileCall (now (memory .entry)) (now (journal .entry)) (now (machine .entry)) count (now (result .entry)) (now (memory .exit)) (now (journal .exit)) (now (machine .exit)) (now (result .exit)) r ⌝ }
+    ensures { λ r. ⌜ FileCall (now (memory .entry)) bottom (now (journal .entry)) (now (machine .entry)) count (now (result .entry)) (now (memory .exit)) (now (journal .exit)) (now (machine .exit)) (now (result .exit)) r ⌝ }
 {
     let lent = machine_lent(&*machine, result.len(), RUN_PLACES);
     if !lent.formed {
         return MISFIT;
     }
-    let r = interpreter::file_run(memory, journal, lent.machine, count);
+    let r = interpreter::file_run(memory, bottom, journal, lent.machine, count);
     end_file_run(r, machine, result)
 }
 
@@ -55,18 +57,19 @@ pub extern "C" fn fm8502_file_run(
 #[no_mangle]
 pub extern "C" fn fm8502_gate_run(
     memory: &mut [u32],
+    bottom: u32,
     waits: &[u16],
     state: &mut [u32],
     clocks: u64,
     result: &mut [u64],
 ) -> u32
-    ensures { λ r. ⌜ GateCall (now (memory .entry)) (now (waits .entry)) (now (state .entry)) clocks (now (result .entry)) (now (memory .exit)) (now (state .exit)) (now (result .exit)) r ⌝ }
+    ensures { λ r. ⌜ GateCall (now (memory .entry)) bottom (now (waits .entry)) (now (state .entry)) clocks (now (result .entry)) (now (memory .exit)) (now (state .exit)) (now (result .exit)) r ⌝ }
 {
     let lent = state_lent(&*state, result.len());
     if !lent.formed {
         return MISFIT;
     }
-    let r = gate_machine::run(memory, waits, lent.state, clocks);
+    let r = gate_machine::run(memory, bottom, waits, lent.state, clocks);
     end_gate_run(r, state, result)
 }
 
@@ -74,17 +77,18 @@ pub extern "C" fn fm8502_gate_run(
 #[no_mangle]
 pub extern "C" fn fm8502_clock(
     memory: &mut [u32],
+    bottom: u32,
     waits: &[u16],
     state: &mut [u32],
     result: &mut [u64],
 ) -> u32
-    ensures { λ r. ⌜ GateCall (now (memory .entry)) (now (waits .entry)) (now (state .entry)) 1 (now (result .entry)) (now (memory .exit)) (now (state .exit)) (now (result .exit)) r ⌝ }
+    ensures { λ r. ⌜ GateCall (now (memory .entry)) bottom (now (waits .entry)) (now (state .entry)) 1 (now (result .entry)) (now (memory .exit)) (now (state .exit)) (now (result .exit)) r ⌝ }
 {
     let lent = state_lent(&*state, result.len());
     if !lent.formed {
         return MISFIT;
     }
-    let r = clock_once(memory, waits, lent.state);
+    let r = clock_once(memory, bottom, waits, lent.state);
     end_gate_run(r, state, result)
 }
 

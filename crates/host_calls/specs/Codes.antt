@@ -1,4 +1,5 @@
--- The code that each call returns, and what it leaves of what it was lent. Document 01, "Why a call is turned down", numbers the refusals.
+-- The code that each call returns, and what it leaves of what it was lent. Document 01, "Why a call is turned down", and
+-- document 02 number the refusals.
 use Prim.Native.Nat.{ℕ}
 use mathlib.Core.Bool.{Bool, cond, _||_}
 use mathlib.Core.List.{List, [], _∷_}
@@ -13,7 +14,7 @@ use Rattle.image.specs.declared.ReadResult.{ReadResult}
 use Rattle.image.specs.declared.WriteAnswer.{WriteAnswer}
 use Rattle.image.specs.Calls.{writeSize, readCount}
 
--- ---- the codes: a refusal has document 01's number, 1 to 15; of a gate run, a read and a write the answer's number is the code
+-- ---- the codes: a refusal has the papers' number; of a gate run, a read and a write the answer's number is the code
 
 -- carried out
 abbrev pub done : ℕ

@@ -1,4 +1,4 @@
-// The codes that a call returns beside a refusal's number, 1 to 15: carried out; carried out and ended "outside" or "undone"; carried out
+// The codes that a call returns beside a refusal's number: carried out; carried out and ended "outside" or "undone"; carried out
 // and ended "no instruction"; what is lent has not the layout's lengths.
 use interpreter::RunAnswer;
 use refusals::refusal_number;

@@ -2,7 +2,7 @@
 use Prim.Native.Nat.{ℕ, _≤_}
 use mathlib.Core.Path.{_≡_, refl, sym, ap, _∙_}
 use mathlib.Core.Bool.{Bool, true, false}
-use mathlib.Core.List.{List, []}
+use mathlib.Core.List.{List}
 use native.Mathlib.Omega.{arith}
 use lib.ListN.{length}
 use Rattle.model.specs.declared.Machine.{Machine}
@@ -12,6 +12,7 @@ use Rattle.model.specs.declared.Refusal.{Refusal}
 use Rattle.model.specs.declared.Verdict.{Verdict}
 use Rattle.model.specs.declared.Verdict.the-variants.{Accepted, Refused}
 use Rattle.model.specs.Words.{overlay}
+use Rattle.model.specs.Board.{Board}
 use Rattle.model.specs.Interpreter.{goesOn, Run, begin, interpret}
 use Rattle.model.specs.Journal.{journalPairs, journalWords}
 use Rattle.model.specs.Refusals.{verdictNumber, leftBy, runVerdict, fileVerdict}
@@ -27,7 +28,7 @@ use Rattle.interpreter.specs.declared.RunResult.{RunResult}
 use Rattle.interpreter.specs.declared.FileAnswer.{FileAnswer}
 use Rattle.interpreter.specs.declared.FileResult.{FileResult}
 use Rattle.interpreter.specs.Calls.{runAnswer, runResult, runNumber, runReturned, runWords, Runs}
-use Rattle.interpreter.specs.Calls.{fileEnd, fileResult, memoryEnd, fileNumber, fileReturned, fileWords, filePlaces, FileRuns}
+use Rattle.interpreter.specs.Calls.{fileBoard, fileEnd, fileResult, memoryEnd, fileNumber, fileReturned, fileWords, filePlaces, FileRuns}
 
 -- ---- the run
 
@@ -46,9 +47,9 @@ halted-as Finished q = cc
 halted-as Outside q = cc
 halted-as NoInstruction q = refl
 
-module _ (memory waits : List ℕ) (start : Machine) (count : ℕ) where
+module _ (memory : List ℕ) (board : Board) (start : Machine) (count : ℕ) where
   abbrev ran : Run
-  ran = interpret waits count (begin start memory 0)
+  ran = interpret board count (begin start memory 0)
 
   answer-number : (e : Ending) → runNumber (runAnswer e) ≡ 0
   answer-number Finished = refl
@@ -59,12 +60,12 @@ module _ (memory waits : List ℕ) (start : Machine) (count : ℕ) where
   numbered Accepted r = answer-number (r .ending)
   numbered (Refused why) r = refl
 
-  as-result : (v : Verdict) → v ≡ runVerdict memory waits → {r : RunResult} {memory′ : List ℕ}
+  as-result : (v : Verdict) → v ≡ runVerdict memory board → {r : RunResult} {memory′ : List ℕ}
       → r ≡ runResult v start ran → memory′ ≡ leftBy v (ran .memory) memory
-      → Runs memory waits start count memory′ r
+      → Runs memory board start count memory′ r
   unfolding runReturned runWords
   as-result v e p q =
-      let n = runVerdict memory waits in
+      let n = runVerdict memory board in
       let full = p ∙ ap (λ (v : Verdict). runResult v start ran) e in
       record {
         result = full;
@@ -73,12 +74,12 @@ module _ (memory waits : List ℕ) (start : Machine) (count : ℕ) where
       }
 
   -- what the contract says is what some run returns and leaves
-  pub run-contracted : Runs memory waits start count (runWords memory waits start count) (runReturned memory waits start count)
+  pub run-contracted : Runs memory board start count (runWords memory board start count) (runReturned memory board start count)
   unfolding runReturned runWords
-  run-contracted = as-result (runVerdict memory waits) refl refl refl
+  run-contracted = as-result (runVerdict memory board) refl refl refl
 
   -- what a run that is carried out returns, and leaves in the memory
-  module _ {r : RunResult} {memory′ : List ℕ} (v : runVerdict memory waits ≡ Accepted) (c : Runs memory waits start count memory′ r) where
+  module _ {r : RunResult} {memory′ : List ℕ} (v : runVerdict memory board ≡ Accepted) (c : Runs memory board start count memory′ r) where
     pub returned : r ≡ runResult Accepted start ran
     unfolding runReturned
     returned = c .result ∙ ap (λ (w : Verdict). runResult w start ran) v
@@ -87,21 +88,21 @@ module _ (memory waits : List ℕ) (start : Machine) (count : ℕ) where
     unfolding runWords
     left-in = c .words ∙ ap (λ (w : Verdict). leftBy w (ran .memory) memory) v
 
-module _ {memory waits : List ℕ} {start : Machine} {count : ℕ} {v : Verdict} (e : v ≡ runVerdict memory waits) where
+module _ {memory : List ℕ} {board : Board} {start : Machine} {count : ℕ} {v : Verdict} (e : v ≡ runVerdict memory board) where
   pub run-refused : {why : Refusal} → v ≡ Refused why
-      → Runs memory waits start count memory (record { answer = RunAnswer.Refused why; machine = start; ran = 0; clocks = 0 })
-  run-refused {why} p = as-result memory waits start count (Refused why) (sym p ∙ e) refl refl
+      → Runs memory board start count memory (record { answer = RunAnswer.Refused why; machine = start; ran = 0; clocks = 0 })
+  run-refused {why} p = as-result memory board start count (Refused why) (sym p ∙ e) refl refl
 
   pub run-carried : v ≡ Accepted → {journal memory′ journal′ : List ℕ} {d : Ended}
-      → EngineEnds memory waits journal start count memory′ journal′ d → {a : RunAnswer} → a ≡ runAnswer (d .ending)
-      → Runs memory waits start count memory′ (record { answer = a; machine = d .machine; ran = d .ran; clocks = d .clocks })
-  run-carried p h f = as-result memory waits start count Accepted (sym p ∙ e) (rw (f, h .result)) (h .words)
+      → EngineEnds memory board journal start count memory′ journal′ d → {a : RunAnswer} → a ≡ runAnswer (d .ending)
+      → Runs memory board start count memory′ (record { answer = a; machine = d .machine; ran = d .ran; clocks = d .clocks })
+  run-carried p h f = as-result memory board start count Accepted (sym p ∙ e) (rw (f, h .result)) (h .words)
 
 -- ---- the file run
 
-module _ (memory journal : List ℕ) (start : Machine) (count : ℕ) where
+module _ (memory : List ℕ) (bottom : ℕ) (journal : List ℕ) (start : Machine) (count : ℕ) where
   abbrev filed : Run
-  filed = interpret [] count (begin start memory 0)
+  filed = interpret (fileBoard bottom) count (begin start memory 0)
 
   end-number : (e : Ending) (r : Run) (n : ℕ) → fileNumber (fileEnd e start r n .answer) ≡ 0
   end-number Finished r n = refl
@@ -112,58 +113,63 @@ module _ (memory journal : List ℕ) (start : Machine) (count : ℕ) where
   file-numbered Accepted r n = end-number (r .ending) r n
   file-numbered (Refused why) r n = refl
 
-  as-file : (v : Verdict) → v ≡ fileVerdict memory journal count → {r : FileResult} {memory′ journal′ : List ℕ}
-      → r ≡ fileResult v start filed (length (journalPairs [] count (begin start memory 0)))
+  as-file : (v : Verdict) → v ≡ fileVerdict memory bottom journal count → {r : FileResult} {memory′ journal′ : List ℕ}
+      → r ≡ fileResult v start filed (length (journalPairs (fileBoard bottom) count (begin start memory 0)))
       → memory′ ≡ leftBy v (memoryEnd (filed .ending) memory filed) memory
-      → journal′ ≡ leftBy v (overlay (journalWords (journalPairs [] count (begin start memory 0))) journal) journal
-      → FileRuns memory journal start count memory′ journal′ r
+      → journal′ ≡ leftBy v (overlay (journalWords (journalPairs (fileBoard bottom) count (begin start memory 0))) journal) journal
+      → FileRuns memory bottom journal start count memory′ journal′ r
   unfolding fileReturned fileWords filePlaces
   as-file v e p q j =
-      let n = length (journalPairs [] count (begin start memory 0)) in
+      let n = length (journalPairs (fileBoard bottom) count (begin start memory 0)) in
       let full = p ∙ ap (λ (v : Verdict). fileResult v start filed n) e in
       record {
         result = full;
         words = q ∙ ap (λ (v : Verdict). leftBy v (memoryEnd (filed .ending) memory filed) memory) e;
-        places = j ∙ ap (λ (v : Verdict). leftBy v (overlay (journalWords (journalPairs [] count (begin start memory 0))) journal) journal) e;
-        number = ap (λ (r : FileResult). fileNumber (r .answer)) full ∙ file-numbered (fileVerdict memory journal count) filed n;
+        places = j ∙ ap (λ (v : Verdict). leftBy v (overlay (journalWords (journalPairs (fileBoard bottom) count (begin start memory 0))) journal) journal) e;
+        number = ap (λ (r : FileResult). fileNumber (r .answer)) full ∙ file-numbered (fileVerdict memory bottom journal count) filed n;
       }
 
-  -- what a file run that is carried out returns, and leaves in the memory
-  module _ {r : FileResult} {memory′ journal′ : List ℕ} (v : fileVerdict memory journal count ≡ Accepted) (c : FileRuns memory journal start count memory′ journal′ r) where
-    pub file-returned : r ≡ fileEnd (filed .ending) start filed (length (journalPairs [] count (begin start memory 0)))
+  -- what a file run that is carried out returns, and leaves in the memory and in the journal
+  module _ {r : FileResult} {memory′ journal′ : List ℕ} (v : fileVerdict memory bottom journal count ≡ Accepted)
+      (c : FileRuns memory bottom journal start count memory′ journal′ r) where
+    pub file-returned : r ≡ fileEnd (filed .ending) start filed (length (journalPairs (fileBoard bottom) count (begin start memory 0)))
     unfolding fileReturned
-    file-returned = c .result ∙ ap (λ (w : Verdict). fileResult w start filed (length (journalPairs [] count (begin start memory 0)))) v
+    file-returned = c .result ∙ ap (λ (w : Verdict). fileResult w start filed (length (journalPairs (fileBoard bottom) count (begin start memory 0)))) v
 
     pub file-left : memory′ ≡ memoryEnd (filed .ending) memory filed
     unfolding fileWords
     file-left = c .words ∙ ap (λ (w : Verdict). leftBy w (memoryEnd (filed .ending) memory filed) memory) v
 
-module _ {memory journal : List ℕ} {start : Machine} {count : ℕ} {v : Verdict} (e : v ≡ fileVerdict memory journal count) where
-  pub file-refused : {why : Refusal} → v ≡ Refused why
-      → FileRuns memory journal start count memory journal (record { answer = FileAnswer.Refused why; machine = start; ran = 0; pairs = 0 })
-  file-refused {why} p = as-file memory journal start count (Refused why) (sym p ∙ e) refl refl refl
+    pub file-placed : journal′ ≡ overlay (journalWords (journalPairs (fileBoard bottom) count (begin start memory 0))) journal
+    unfolding filePlaces
+    file-placed = c .places ∙ ap (λ (w : Verdict). leftBy w (overlay (journalWords (journalPairs (fileBoard bottom) count (begin start memory 0))) journal) journal) v
 
-  module _ (p : v ≡ Accepted) {memory′ journal′ : List ℕ} {d : Ended} (h : EngineEnds memory [] journal start count memory′ journal′ d) where
-    ended : {v x : Bool} → v ≡ goesOn (d .ending) → v ≡ x → goesOn (filed memory journal start count .ending) ≡ x
+module _ {memory : List ℕ} {bottom : ℕ} {journal : List ℕ} {start : Machine} {count : ℕ} {v : Verdict} (e : v ≡ fileVerdict memory bottom journal count) where
+  pub file-refused : {why : Refusal} → v ≡ Refused why
+      → FileRuns memory bottom journal start count memory journal (record { answer = FileAnswer.Refused why; machine = start; ran = 0; pairs = 0 })
+  file-refused {why} p = as-file memory bottom journal start count (Refused why) (sym p ∙ e) refl refl refl
+
+  module _ (p : v ≡ Accepted) {memory′ journal′ : List ℕ} {d : Ended} (h : EngineEnds memory (fileBoard bottom) journal start count memory′ journal′ d) where
+    ended : {v x : Bool} → v ≡ goesOn (d .ending) → v ≡ x → goesOn (filed memory bottom journal start count .ending) ≡ x
     ended told f = sym (told ∙ ap (λ (d : Ended). goesOn (d .ending)) (h .result)) ∙ f
 
-    places : journal′ ≡ overlay (journalWords (journalPairs [] count (begin start memory 0))) journal
+    places : journal′ ≡ overlay (journalWords (journalPairs (fileBoard bottom) count (begin start memory 0))) journal
     places =
-        let ps = journalPairs [] count (begin start memory 0) in
+        let ps = journalPairs (fileBoard bottom) count (begin start memory 0) in
         let fits : length (journalWords ps) ≤ length journal =
-        omega (arith, words-length ps, pairs-le [] count (begin start memory 0), room-for-all memory journal count p e) in
+        omega (arith, words-length ps, pairs-le (fileBoard bottom) count (begin start memory 0), room-for-all memory bottom journal count p e) in
         h .places ∙ overlaid journal (journalWords ps) fits
 
     pub file-finished : {v : Bool} → v ≡ goesOn (d .ending) → v ≡ true
-        → FileRuns memory journal start count memory′ journal′
+        → FileRuns memory bottom journal start count memory′ journal′
         (record { answer = FileAnswer.Finished; machine = d .machine; ran = d .ran; pairs = d .pairs })
     file-finished told f =
-        as-file memory journal start count Accepted (sym p ∙ e) (rw (h .result, ended told f)) (h .words ∙ rw (ended told f)) places
+        as-file memory bottom journal start count Accepted (sym p ∙ e) (rw (h .result, ended told f)) (h .words ∙ rw (ended told f)) places
 
     pub file-undone : {v : Bool} → v ≡ goesOn (d .ending) → v ≡ false → {memory″ : List ℕ} → memory″ ≡ undone (d .pairs) journal′ memory′
-        → FileRuns memory journal start count memory″ journal′
+        → FileRuns memory bottom journal start count memory″ journal′
         (record { answer = FileAnswer.Undone; machine = start; ran = d .ran; pairs = d .pairs })
     file-undone told f u =
         let restored = rw (h .result, places, h .words) at u in
-        as-file memory journal start count Accepted (sym p ∙ e) (rw (h .result, ended told f))
-        ((restored ∙ back [] count (begin start memory 0) _) ∙ rw (ended told f)) places
+        as-file memory bottom journal start count Accepted (sym p ∙ e) (rw (h .result, ended told f))
+        ((restored ∙ back (fileBoard bottom) count (begin start memory 0) _) ∙ rw (ended told f)) places

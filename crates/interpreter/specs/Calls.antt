@@ -1,5 +1,5 @@
 -- The two public calls, run and file run: their results, the memory and the journal at exit, carried out or turned down. Document 01,
--- "Machine and instruction word", "Clocks", "File run and journal" and "Why a call is turned down"; CR 5.
+-- "Machine and instruction word", "Clocks", "File run and journal" and "Why a call is turned down"; CR 5 and CR 6.
 use Prim.Native.Nat.{ℕ}
 use mathlib.Core.Path.{_≡_}
 use mathlib.Core.Bool.{cond}
@@ -11,6 +11,7 @@ use Rattle.model.specs.declared.Ending.the-variants.{Finished, Outside, NoInstr
 use Rattle.model.specs.declared.Verdict.{Verdict}
 use Rattle.model.specs.declared.Verdict.the-variants.{Accepted, Refused}
 use Rattle.model.specs.Words.{overlay}
+use Rattle.model.specs.Board.{Board, boardWith}
 use Rattle.model.specs.Interpreter.{goesOn, Run, begin, interpret}
 use Rattle.model.specs.Journal.{journalPairs, journalWords}
 use Rattle.model.specs.Refusals.{refusalNumber, verdictNumber, leftBy, runVerdict, fileVerdict}
@@ -34,7 +35,7 @@ runResult Accepted start r =
 runResult (Refused why) start r =
     record { answer = RunAnswer.Refused why; machine = start; ran = 0; clocks = 0 }
 
--- document 01's number of an answer; 0 where the call was carried out
+-- the papers' number of an answer; 0 where the call was carried out
 abbrev pub runNumber : RunAnswer → ℕ
 runNumber RunAnswer.Finished = 0
 runNumber RunAnswer.Outside = 0
@@ -42,17 +43,17 @@ runNumber RunAnswer.NoInstruction = 0
 runNumber (RunAnswer.Refused why) = refusalNumber why
 
 -- what a run of so many instructions returns, and the memory that it leaves
-unfoldable pub runReturned : (memory waits : List ℕ) → Machine → (count : ℕ) → RunResult
-runReturned memory waits start count = runResult (runVerdict memory waits) start (interpret waits count (begin start memory 0))
+unfoldable pub runReturned : (memory : List ℕ) → Board → Machine → (count : ℕ) → RunResult
+runReturned memory board start count = runResult (runVerdict memory board) start (interpret board count (begin start memory 0))
 
-unfoldable pub runWords : (memory waits : List ℕ) → Machine → (count : ℕ) → List ℕ
-runWords memory waits start count = leftBy (runVerdict memory waits) (interpret waits count (begin start memory 0) .memory) memory
+unfoldable pub runWords : (memory : List ℕ) → Board → Machine → (count : ℕ) → List ℕ
+runWords memory board start count = leftBy (runVerdict memory board) (interpret board count (begin start memory 0) .memory) memory
 
 -- what a run promises: its result, the memory's words, and the number for why it was turned down
-pub record Runs (memory waits : List ℕ) (start : Machine) (count : ℕ) (memory′ : List ℕ) (r : RunResult) : Type 0 where
-  pub result : r ≡ runReturned memory waits start count
-  pub words : memory′ ≡ runWords memory waits start count
-  pub number : runNumber (r .answer) ≡ verdictNumber (runVerdict memory waits)
+pub record Runs (memory : List ℕ) (board : Board) (start : Machine) (count : ℕ) (memory′ : List ℕ) (r : RunResult) : Type 0 where
+  pub result : r ≡ runReturned memory board start count
+  pub words : memory′ ≡ runWords memory board start count
+  pub number : runNumber (r .answer) ≡ verdictNumber (runVerdict memory board)
 
 -- ---- the file run
 
@@ -77,26 +78,30 @@ fileNumber FileAnswer.Finished = 0
 fileNumber FileAnswer.Undone = 0
 fileNumber (FileAnswer.Refused why) = refusalNumber why
 
--- what a file run of so many instructions returns, and the memory and the journal that it leaves
-unfoldable pub fileReturned : (memory journal : List ℕ) → Machine → (count : ℕ) → FileResult
-fileReturned memory journal start count =
-    fileResult (fileVerdict memory journal count) start (interpret [] count (begin start memory 0))
-    (length (journalPairs [] count (begin start memory 0)))
+-- a file run has no waits
+abbrev pub fileBoard : (bottom : ℕ) → Board
+fileBoard bottom = boardWith bottom []
 
-unfoldable pub fileWords : (memory journal : List ℕ) → Machine → (count : ℕ) → List ℕ
-fileWords memory journal start count =
-    let r = interpret [] count (begin start memory 0) in
-    leftBy (fileVerdict memory journal count) (memoryEnd (r .ending) memory r) memory
+-- what a file run of so many instructions returns, and the memory and the journal that it leaves
+unfoldable pub fileReturned : (memory : List ℕ) → (bottom : ℕ) → (journal : List ℕ) → Machine → (count : ℕ) → FileResult
+fileReturned memory bottom journal start count =
+    fileResult (fileVerdict memory bottom journal count) start (interpret (fileBoard bottom) count (begin start memory 0))
+    (length (journalPairs (fileBoard bottom) count (begin start memory 0)))
+
+unfoldable pub fileWords : (memory : List ℕ) → (bottom : ℕ) → (journal : List ℕ) → Machine → (count : ℕ) → List ℕ
+fileWords memory bottom journal start count =
+    let r = interpret (fileBoard bottom) count (begin start memory 0) in
+    leftBy (fileVerdict memory bottom journal count) (memoryEnd (r .ending) memory r) memory
 
 -- the pairs over the journal's first places; the places that are not used stay
-unfoldable pub filePlaces : (memory journal : List ℕ) → Machine → (count : ℕ) → List ℕ
-filePlaces memory journal start count =
-    let pairs = journalWords (journalPairs [] count (begin start memory 0)) in
-    leftBy (fileVerdict memory journal count) (overlay pairs journal) journal
+unfoldable pub filePlaces : (memory : List ℕ) → (bottom : ℕ) → (journal : List ℕ) → Machine → (count : ℕ) → List ℕ
+filePlaces memory bottom journal start count =
+    let pairs = journalWords (journalPairs (fileBoard bottom) count (begin start memory 0)) in
+    leftBy (fileVerdict memory bottom journal count) (overlay pairs journal) journal
 
 -- what a file run promises: its result, the memory's words, the journal's places, and the number for why it was turned down
-pub record FileRuns (memory journal : List ℕ) (start : Machine) (count : ℕ) (memory′ journal′ : List ℕ) (r : FileResult) : Type 0 where
-  pub result : r ≡ fileReturned memory journal start count
-  pub words : memory′ ≡ fileWords memory journal start count
-  pub places : journal′ ≡ filePlaces memory journal start count
-  pub number : fileNumber (r .answer) ≡ verdictNumber (fileVerdict memory journal count)
+pub record FileRuns (memory : List ℕ) (bottom : ℕ) (journal : List ℕ) (start : Machine) (count : ℕ) (memory′ journal′ : List ℕ) (r : FileResult) : Type 0 where
+  pub result : r ≡ fileReturned memory bottom journal start count
+  pub words : memory′ ≡ fileWords memory bottom journal start count
+  pub places : journal′ ≡ filePlaces memory bottom journal start count
+  pub number : fileNumber (r .answer) ≡ verdictNumber (fileVerdict memory bottom journal count)

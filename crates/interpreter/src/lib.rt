@@ -9,6 +9,7 @@ use step::goes_on;
 use verdicts::file_verdict;
 use verdicts::run_verdict;
 ghost use mathlib.Core.Path.{_≡_};
+ghost use Rattle.model.specs.Board.{boardWith};
 ghost use Rattle.interpreter.specs.Calls.{runAnswer, Runs, FileRuns};
 
 pub enum RunAnswer {
@@ -49,11 +50,11 @@ fn run_answer(ending: Ending) -> RunAnswer
     }
 }
 
-// Up to `count` instructions from `start`, with waits.
-pub fn run(memory: &mut [u32], waits: &[u16], start: Machine, count: u32) -> RunResult
-    ensures { λ r. ⌜ Runs (now (memory .entry)) (now (waits .entry)) start count (now (memory .exit)) r ⌝ }
+// Up to `count` instructions from `start`, with waits, on a memory with a fixed bottom.
+pub fn run(memory: &mut [u32], bottom: u32, waits: &[u16], start: Machine, count: u32) -> RunResult
+    ensures { λ r. ⌜ Runs (now (memory .entry)) (boardWith bottom (now (waits .entry))) start count (now (memory .exit)) r ⌝ }
 {
-    match run_verdict(&*memory, waits) {
+    match run_verdict(&*memory, bottom, waits) {
         Verdict::Refused(why) => RunResult {
             answer: RunAnswer::Refused(why),
             machine: start,
@@ -62,7 +63,7 @@ pub fn run(memory: &mut [u32], waits: &[u16], start: Machine, count: u32) -> Run
         },
         Verdict::Accepted => {
             let mut none: [u32; 0] = [];
-            let e = engine(memory, waits, &mut none, start, count);
+            let e = engine(memory, bottom, waits, &mut none, start, count);
             let machine = e.machine;
             let ending = e.ending;
             let ran = e.ran;
@@ -76,11 +77,18 @@ pub fn run(memory: &mut [u32], waits: &[u16], start: Machine, count: u32) -> Run
     }
 }
 
-// Up to `count` instructions from `start`, without waits; each store to memory is journaled, and a run that stops before the end is undone.
-pub fn file_run(memory: &mut [u32], journal: &mut [u32], start: Machine, count: u32) -> FileResult
-    ensures { λ r. ⌜ FileRuns (now (memory .entry)) (now (journal .entry)) start count (now (memory .exit)) (now (journal .exit)) r ⌝ }
+// Up to `count` instructions from `start`, without waits; each store that can alter memory is journaled, and a run that stops before the end
+// is undone.
+pub fn file_run(
+    memory: &mut [u32],
+    bottom: u32,
+    journal: &mut [u32],
+    start: Machine,
+    count: u32,
+) -> FileResult
+    ensures { λ r. ⌜ FileRuns (now (memory .entry)) bottom (now (journal .entry)) start count (now (memory .exit)) (now (journal .exit)) r ⌝ }
 {
-    match file_verdict(&*memory, &*journal, count) {
+    match file_verdict(&*memory, bottom, &*journal, count) {
         Verdict::Refused(why) => FileResult {
             answer: FileAnswer::Refused(why),
             machine: start,
@@ -89,7 +97,7 @@ pub fn file_run(memory: &mut [u32], journal: &mut [u32], start: Machine, count: 
         },
         Verdict::Accepted => {
             let none: [u16; 0] = [];
-            let e = engine(memory, &none, journal, start, count);
+            let e = engine(memory, bottom, &none, journal, start, count);
             let ending = e.ending;
             if goes_on(ending) {
                 let last = e.machine;

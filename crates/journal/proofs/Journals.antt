@@ -7,7 +7,8 @@ use native.Mathlib.Numerals.{add-one}
 use native.Mathlib.Omega.{arith}
 use lib.ListN.{length, length-append}
 use lib.Seq.{getD-append-add, set-set, set-getD}
-use Rattle.model.specs.Words.{wordAt, storeWord}
+use Rattle.model.specs.Words.{wordAt, storeWord, alterable}
+use Rattle.model.specs.Board.{Board}
 use Rattle.model.specs.Operands.{inMemory}
 use Rattle.model.specs.Interpreter.{Run, opB, addressB, aluOut, isStored, execute, stop, advance, interpret}
 use Rattle.model.specs.Journal.{Pair, storedBy, journalPairs, journalWords}
@@ -44,40 +45,41 @@ last-pair ps p rest memory =
     ap₂ (λ (i : ℕ) (j : List ℕ). undone i j memory) k w
     ∙ ap₂ (λ (a f : ℕ). undone (length ps) (journalWords ps ++ tail) (storeWord memory a f)) x y
 
--- one store, or none, taken back
-taken-back : (ps : List Pair) (rest memory : List ℕ) (a x : ℕ) (s b : Bool) →
-    let stored : List Pair = cond (s && b) (record { address = a; former = wordAt memory a } ∷ []) [] in
-    undone (length (ps ++ stored)) (journalWords (ps ++ stored) ++ rest) (cond s (cond b (storeWord memory a x) memory) memory)
+-- one store, or none, or one that alters nothing, taken back
+taken-back : (ps : List Pair) (rest memory : List ℕ) (a x : ℕ) (s b v : Bool) →
+    let stored : List Pair = cond (s && b && v) (record { address = a; former = wordAt memory a } ∷ []) [] in
+    undone (length (ps ++ stored)) (journalWords (ps ++ stored) ++ rest) (cond s (cond b (cond v (storeWord memory a x) memory) memory) memory)
     ≡ undone (length ps) (journalWords ps ++ (journalWords stored ++ rest)) memory
 unfolding journalWords
-taken-back ps rest memory a x true true =
+taken-back ps rest memory a x true true true =
     last-pair ps (record { address = a; former = wordAt memory a }) rest (storeWord memory a x)
     ∙ ap (undone (length ps) (journalWords ps ++ (a ∷ wordAt memory a ∷ rest))) (set-set memory a x (wordAt memory a) ∙ set-getD memory a 0)
-taken-back ps rest memory a x true false = rw append-nil
-taken-back ps rest memory a x false b = rw append-nil
+taken-back ps rest memory a x true true false = rw append-nil
+taken-back ps rest memory a x true false v = rw append-nil
+taken-back ps rest memory a x false b v = rw append-nil
 
-module _ (waits : List ℕ) where
+module _ (board : Board) where
   -- one instruction taken back
   back-one : (ps : List Pair) (rest : List ℕ) (r : Run)
-      → undone (length (ps ++ storedBy r)) (journalWords (ps ++ storedBy r) ++ rest) (advance waits r .memory)
-      ≡ undone (length ps) (journalWords ps ++ (journalWords (storedBy r) ++ rest)) (r .memory)
+      → undone (length (ps ++ storedBy (board .bottom) r)) (journalWords (ps ++ storedBy (board .bottom) r) ++ rest) (advance board r .memory)
+      ≡ undone (length ps) (journalWords ps ++ (journalWords (storedBy (board .bottom) r) ++ rest)) (r .memory)
   unfolding storedBy execute stop
   back-one ps rest r =
       let memory = r .memory in
       let m = r .machine in
-      let none = taken-back ps rest memory 0 0 false false in
-      one-more waits
-      (λ (x : Run). undone (length (ps ++ storedBy r)) (journalWords (ps ++ storedBy r) ++ rest) (x .memory)
-      ≡ undone (length ps) (journalWords ps ++ (journalWords (storedBy r) ++ rest)) memory)
+      let none = taken-back ps rest memory 0 0 false false false in
+      one-more board
+      (λ (x : Run). undone (length (ps ++ storedBy (board .bottom) r)) (journalWords (ps ++ storedBy (board .bottom) r) ++ rest) (x .memory)
+      ≡ undone (length ps) (journalWords ps ++ (journalWords (storedBy (board .bottom) r) ++ rest)) memory)
       r
-      (λ e t. rw (e, t) (taken-back ps rest memory (addressB memory m) (aluOut memory m .result) (isStored memory m) (inMemory (opB memory m))))
+      (λ e t. rw (e, t) (taken-back ps rest memory (addressB memory m) (aluOut memory m .result) (isStored memory m) (inMemory (opB memory m)) (alterable (board .bottom) (addressB memory m))))
       (λ e t. rw (e, t) none)
       (λ e. rw e none)
 
   -- the whole run taken back
   pub back : (n : ℕ) (r : Run) (rest : List ℕ)
-      → undone (length (journalPairs waits n r)) (journalWords (journalPairs waits n r) ++ rest) (interpret waits n r .memory) ≡ r .memory
+      → undone (length (journalPairs board n r)) (journalWords (journalPairs board n r) ++ rest) (interpret board n r .memory) ≡ r .memory
   unfolding journalPairs interpret undone
   back zero r rest = refl
   back (suc n) r rest =
-      back-one (journalPairs waits n r) rest (interpret waits n r) ∙ back n r (journalWords (storedBy (interpret waits n r)) ++ rest)
+      back-one (journalPairs board n r) rest (interpret board n r) ∙ back n r (journalWords (storedBy (board .bottom) (interpret board n r)) ++ rest)

@@ -20,12 +20,12 @@ use Rattle.model.proofs.Verdicts.{numbered}
 use Rattle.image.specs.Reading.{Outcome, loaded, refused}
 use Rattle.text.specs.Text.{decimal}
 use Rattle.text.proofs.Figures.{length-digits, decimal-le}
-use Rattle.ledger_lines.specs.Lines.{mostLines, line, lineBetween, lines, heading, endingText, endingWord, runText, refusedText, longestText, ledger}
+use Rattle.ledger_lines.specs.Lines.{mostLines, ledgerBoard, line, lineBetween, lines, heading, endingText, endingWord, runText, refusedText, longestText, ledger}
 
 -- ---- figures: counts and clocks are small
 
-pub clocks-small : (n : ℕ) (r : Run) → interpret [] n r .clocks ≤ r .clocks + n * 11
-clocks-small n r = clocks-le [] 0 (λ p. omega (arith, no-wait [] p zero-le)) n r
+pub clocks-small : (n : ℕ) (r : Run) → interpret ledgerBoard n r .clocks ≤ r .clocks + n * 11
+clocks-small n r = clocks-le ledgerBoard 0 (λ p. omega (arith, no-wait [] p zero-le)) n r
 
 -- ---- lines
 
@@ -69,17 +69,17 @@ module _ (start : Machine) (memory : List ℕ) where
   abbrev first : Run
   first = begin start memory 0
 
-  between-le : (n : ℕ) → n < 99 → length (lineBetween (interpret [] n first) (interpret [] (suc n) first)) + (n - 9) ≤ 28 + (suc n - 9)
+  between-le : (n : ℕ) → n < 99 → length (lineBetween (interpret ledgerBoard n first) (interpret ledgerBoard (suc n) first)) + (n - 9) ≤ 28 + (suc n - 9)
   unfolding interpret
   between-le n small =
-      let before = interpret [] n first in
-      let after = interpret [] (suc n) first in
+      let before = interpret ledgerBoard n first in
+      let after = interpret ledgerBoard (suc n) first in
       let few : after .clocks ≤ before .clocks + 1 * 11 = clocks-small 1 before in
       omega (
         arith,
         between-length before after,
         decimal-le 1 (after .clocks - before .clocks) (omega arith),
-        count-digits (after .ran) n (omega (arith, ran-le [] (suc n) first)) small,
+        count-digits (after .ran) n (omega (arith, ran-le ledgerBoard (suc n) first)) small,
       )
 
   pub lines-length : (n : ℕ) → n < 100 → length (lines n first) ≤ 28 * n + (n - 9)
@@ -90,7 +90,7 @@ module _ (start : Machine) (memory : List ℕ) where
   run-length : length (runText first) ≤ longestText
   unfolding runText heading
   run-length =
-      let last = interpret [] mostLines first in
+      let last = interpret ledgerBoard mostLines first in
       rw length-append
       (rw length-append
       (omega (
@@ -98,7 +98,7 @@ module _ (start : Machine) (memory : List ℕ) where
         lines-length mostLines (omega arith),
         ending-length (endingWord (last .ending)) (last .ran) (last .clocks),
         word-length (last .ending),
-        decimal-le 1 (last .ran) (omega (arith, ran-le [] mostLines first)),
+        decimal-le 1 (last .ran) (omega (arith, ran-le ledgerBoard mostLines first)),
         decimal-le 2 (last .clocks) (omega (arith, clocks-small mostLines first)),
       )))
 

@@ -1,4 +1,4 @@
--- The ledger's text as a list of bytes: what is printed for an image. Document 01, "The ledger program"; CR 5.
+-- The ledger's text as a list of bytes: what is printed for an image. Document 01, "The ledger program"; CR 5 and CR 6.
 use Prim.Native.Nat.{ℕ, zero, suc, _-_}
 use mathlib.Core.Bool.{cond}
 use mathlib.Core.List.{List, [], _∷_, _++_}
@@ -6,6 +6,7 @@ use Rattle.model.specs.declared.Flags.{Flags}
 use Rattle.model.specs.declared.Ending.{Ending}
 use Rattle.model.specs.declared.Ending.the-variants.{Finished, Outside, NoInstruction}
 use Rattle.model.specs.declared.Refusal.{Refusal}
+use Rattle.model.specs.Board.{Board, boardWith}
 use Rattle.model.specs.Interpreter.{pc, instruction, goesOn, Run, begin, interpret}
 use Rattle.model.specs.Refusals.{refusalNumber}
 use Rattle.image.specs.Reading.{Outcome, loaded, refused}
@@ -14,6 +15,10 @@ use Rattle.text.specs.Text.{letters, space, lineFeed, decimal, hexadecimal, fla
 -- how many instructions are run at most
 abbrev pub mostLines : ℕ
 mostLines = 16
+
+-- its board: the bottom at 0, an empty wait list
+abbrev pub ledgerBoard : Board
+ledgerBoard = boardWith 0 []
 
 unfoldable pub heading : List ℕ
 heading = letters "step pc word clocks cvnz\n"
@@ -46,10 +51,10 @@ lineBetween before after =
     (after .machine .flags))
     []
 
--- the lines of the first n instructions, with an empty wait list
+-- the lines of the first n instructions
 unfoldable pub lines : ℕ → Run → List ℕ
 lines zero start = []
-lines (suc n) start = lines n start ++ lineBetween (interpret [] n start) (interpret [] (suc n) start)
+lines (suc n) start = lines n start ++ lineBetween (interpret ledgerBoard n start) (interpret ledgerBoard (suc n) start)
 
 -- the ending, with count and total
 abbrev pub endingWord : Ending → List ℕ
@@ -63,7 +68,7 @@ endingText word count total = word ++ spaced (decimal count) ++ ended (decimal t
 -- heading, lines and ending of a run
 unfoldable pub runText : Run → List ℕ
 runText start =
-    let last = interpret [] mostLines start in
+    let last = interpret ledgerBoard mostLines start in
     heading ++ lines mostLines start ++ endingText (endingWord (last .ending)) (last .ran) (last .clocks)
 
 -- all that is printed for a bad image

@@ -12,13 +12,13 @@ use Rattle.model.specs.Interpreter.{pc, instruction, goesOn, Run, begin, execut
 use Rattle.model.proofs.Cases.{onward}
 use Rattle.model.proofs.Waits.{position-stays}
 use Rattle.model.proofs.Runs.{runAt, one-more, stopped-stays}
-use Rattle.ledger_lines.specs.Lines.{mostLines, line, lineBetween, lines, heading, endingText, endingWord, runText}
+use Rattle.ledger_lines.specs.Lines.{mostLines, ledgerBoard, line, lineBetween, lines, heading, endingText, endingWord, runText}
 
 -- ---- one instruction more
 
 -- a run of one instruction
 abbrev pub oneRun : Machine → List ℕ → Run
-oneRun m memory = interpret [] 1 (begin m memory 0)
+oneRun m memory = interpret ledgerBoard 1 (begin m memory 0)
 
 module _ (m : Machine) (memory : List ℕ) (ran clocks : ℕ) where
   abbrev here : Run
@@ -27,21 +27,21 @@ module _ (m : Machine) (memory : List ℕ) (ran clocks : ℕ) where
   abbrev alone : Run
   alone = begin m memory 0
 
-  goes : (oneRun m memory .ran ≡ 0 → ⊥) → advance [] here ≡ runAt (oneRun m memory .machine) (oneRun m memory .memory) 0 (ran + 1) (clocks + oneRun m memory .clocks)
+  goes : (oneRun m memory .ran ≡ 0 → ⊥) → advance ledgerBoard here ≡ runAt (oneRun m memory .machine) (oneRun m memory .memory) 0 (ran + 1) (clocks + oneRun m memory .clocks)
   unfolding interpret advance execute stop
   goes =
-      one-more [] (λ (o : Run). (o .ran ≡ 0 → ⊥) → advance [] here ≡ runAt (o .machine) (o .memory) 0 (ran + 1) (clocks + o .clocks)) alone
+      one-more ledgerBoard (λ (o : Run). (o .ran ≡ 0 → ⊥) → advance ledgerBoard here ≡ runAt (o .machine) (o .memory) 0 (ran + 1) (clocks + o .clocks)) alone
       (λ _ t _. rw (t, position-stays [] refl, zero-add))
       (λ _ _ ne. absurd (ne refl))
       (λ e _. absurd (true≢false e))
 
   -- where it did not run: how the run ends before it, with the memory as it was
   pub stops : oneRun m memory .ran ≡ 0
-      → (advance [] here ≡ stop (oneRun m memory .ending) here) × (oneRun m memory .memory ≡ memory) × (goesOn (oneRun m memory .ending) ≡ false)
+      → (advance ledgerBoard here ≡ stop (oneRun m memory .ending) here) × (oneRun m memory .memory ≡ memory) × (goesOn (oneRun m memory .ending) ≡ false)
   unfolding interpret advance execute stop
   stops =
-      one-more []
-      (λ (o : Run). o .ran ≡ 0 → (advance [] here ≡ stop (o .ending) here) × (o .memory ≡ memory) × (goesOn (o .ending) ≡ false))
+      one-more ledgerBoard
+      (λ (o : Run). o .ran ≡ 0 → (advance ledgerBoard here ≡ stop (o .ending) here) × (o .memory ≡ memory) × (goesOn (o .ending) ≡ false))
       alone
       (λ _ _ e. absurd (omega arith))
       (λ _ t _. (rw t, refl, t))
@@ -55,25 +55,25 @@ module _ (start : Run) where
   unfolding lineBetween
   between-same r e = rw e
 
-  lines-stay : {n k : ℕ} → n ≤ k → goesOn (interpret [] n start .ending) ≡ false → lines k start ≡ lines n start
+  lines-stay : {n k : ℕ} → n ≤ k → goesOn (interpret ledgerBoard n start .ending) ≡ false → lines k start ≡ lines n start
   unfolding lines
   lines-stay {n} h e =
       onward (λ (k : ℕ). lines k start ≡ lines n start) h refl
       (λ k l p.
-      let i : interpret [] k start ≡ interpret [] n start = stopped-stays [] start l e in
-      let j : interpret [] (suc k) start ≡ interpret [] n start = stopped-stays [] start (omega arith) e in
-      ap₂ (λ (x y : List ℕ). x ++ y) p (ap₂ lineBetween i j ∙ between-same (interpret [] n start) e)
+      let i : interpret ledgerBoard k start ≡ interpret ledgerBoard n start = stopped-stays ledgerBoard start l e in
+      let j : interpret ledgerBoard (suc k) start ≡ interpret ledgerBoard n start = stopped-stays ledgerBoard start (omega arith) e in
+      ap₂ (λ (x y : List ℕ). x ++ y) p (ap₂ lineBetween i j ∙ between-same (interpret ledgerBoard n start) e)
       ∙ append-nil (lines n start))
 
-  module _ {m : Machine} {memory : List ℕ} {n clocks : ℕ} (at : interpret [] n start ≡ runAt m memory 0 n clocks) where
+  module _ {m : Machine} {memory : List ℕ} {n clocks : ℕ} (at : interpret ledgerBoard n start ≡ runAt m memory 0 n clocks) where
     after : (oneRun m memory .ran ≡ 0 → ⊥)
-        → interpret [] (suc n) start ≡ runAt (oneRun m memory .machine) (oneRun m memory .memory) 0 (n + 1) (clocks + oneRun m memory .clocks)
+        → interpret ledgerBoard (suc n) start ≡ runAt (oneRun m memory .machine) (oneRun m memory .memory) 0 (n + 1) (clocks + oneRun m memory .clocks)
     unfolding interpret
-    after ne = ap (advance []) at ∙ goes m memory n clocks ne
+    after ne = ap (advance ledgerBoard) at ∙ goes m memory n clocks ne
 
     pub next-run : (oneRun m memory .ran ≡ 0 → ⊥)
-        → interpret [] (n + 1) start ≡ runAt (oneRun m memory .machine) (oneRun m memory .memory) 0 (n + 1) (clocks + oneRun m memory .clocks)
-    next-run ne = ap (λ (i : ℕ). interpret [] i start) (add-one n) ∙ after ne
+        → interpret ledgerBoard (n + 1) start ≡ runAt (oneRun m memory .machine) (oneRun m memory .memory) 0 (n + 1) (clocks + oneRun m memory .clocks)
+    next-run ne = ap (λ (i : ℕ). interpret ledgerBoard i start) (add-one n) ∙ after ne
 
     pub next-lines : (oneRun m memory .ran ≡ 0 → ⊥)
         → lines (n + 1) start
@@ -86,22 +86,22 @@ module _ (start : Run) where
         ∙ ap (λ (l : List ℕ). lines n start ++ l)
         (ap₂ lineBetween at (after ne) ∙ ap (λ (c : ℕ). line (n + 1) (pc memory m) (instruction memory m) c (oneRun m memory .machine .flags)) own)
 
-    last-run : oneRun m memory .ran ≡ 0 → interpret [] (suc n) start ≡ stop (oneRun m memory .ending) (runAt m memory 0 n clocks)
+    last-run : oneRun m memory .ran ≡ 0 → interpret ledgerBoard (suc n) start ≡ stop (oneRun m memory .ending) (runAt m memory 0 n clocks)
     unfolding interpret
-    last-run e = ap (advance []) at ∙ stops m memory n clocks e .0
+    last-run e = ap (advance ledgerBoard) at ∙ stops m memory n clocks e .0
 
     last-lines : oneRun m memory .ran ≡ 0 → lines (suc n) start ≡ lines n start
     unfolding lines lineBetween stop
     last-lines e =
         ap₂ (λ (a b : Run). lines n start ++ lineBetween a b) at (last-run e) ∙ rw (stops m memory n clocks e .2) (append-nil (lines n start))
 
-    has-stopped : oneRun m memory .ran ≡ 0 → goesOn (interpret [] (suc n) start .ending) ≡ false
+    has-stopped : oneRun m memory .ran ≡ 0 → goesOn (interpret ledgerBoard (suc n) start .ending) ≡ false
     unfolding stop
     has-stopped e = ap (λ (r : Run). goesOn (r .ending)) (last-run e) ∙ stops m memory n clocks e .2
 
     pub stopped-run : n < mostLines → oneRun m memory .ran ≡ 0
-        → interpret [] mostLines start ≡ stop (oneRun m memory .ending) (runAt m memory 0 n clocks)
-    stopped-run h e = stopped-stays [] start h (has-stopped e) ∙ last-run e
+        → interpret ledgerBoard mostLines start ≡ stop (oneRun m memory .ending) (runAt m memory 0 n clocks)
+    stopped-run h e = stopped-stays ledgerBoard start h (has-stopped e) ∙ last-run e
 
     pub stopped-text : n < mostLines → oneRun m memory .ran ≡ 0
         → heading ++ lines n start ++ endingText (endingWord (oneRun m memory .ending)) n clocks ≡ runText start
@@ -116,5 +116,5 @@ module _ (start : Run) where
     unfolding runText
     finished-text e =
         sym
-        (ap (λ (i : ℕ). let r = interpret [] i start in heading ++ lines i start ++ endingText (endingWord (r .ending)) (r .ran) (r .clocks)) (sym e)
+        (ap (λ (i : ℕ). let r = interpret ledgerBoard i start in heading ++ lines i start ++ endingText (endingWord (r .ending)) (r .ran) (r .clocks)) (sym e)
         ∙ ap (λ (r : Run). heading ++ lines n start ++ endingText (endingWord (r .ending)) (r .ran) (r .clocks)) at)

@@ -1,7 +1,7 @@
 -- The loop that puts the text of a run in: where it stands, one line more, and its two ends.
 use Prim.Native.Nat.{ℕ, _+_, _≤_, _<_}
 use mathlib.Core.Path.{_≡_, refl, sym, ap, _∙_}
-use mathlib.Core.List.{List, []}
+use mathlib.Core.List.{List}
 use native.Mathlib.Omega.{arith}
 use lib.ListN.{length}
 use Rattle.model.specs.declared.Machine.{Machine}
@@ -15,7 +15,7 @@ use Rattle.model.proofs.Verdicts.{run-accepted}
 use Rattle.interpreter.specs.declared.RunResult.{RunResult}
 use Rattle.interpreter.specs.Calls.{runAnswer, runResult, Runs}
 use Rattle.interpreter.proofs.Answers.{returned, left-in}
-use Rattle.ledger_lines.specs.Lines.{mostLines, line, lines, heading, endingText, endingWord}
+use Rattle.ledger_lines.specs.Lines.{mostLines, ledgerBoard, line, lines, heading, endingText, endingWord}
 use Rattle.ledger_lines.proofs.Lengths.{clocks-small, lines-length}
 use Rattle.ledger_text.specs.Parts.{Extends, endingOf, RunPuts}
 use Rattle.ledger_text.proofs.Parts.{_⊳_}
@@ -35,7 +35,7 @@ module _ (start : Machine) (memory₀ out₀ : List ℕ) (at₀ : ℕ) where
 
   -- after so many lines
   pub record At (memory out : List ℕ) (machine : Machine) (at ran clocks : ℕ) : Type 0 where
-    pub state : interpret [] ran first ≡ runAt machine memory 0 ran clocks
+    pub state : interpret ledgerBoard ran first ≡ runAt machine memory 0 ran clocks
     pub text : Extends out₀ at₀ (lines ran first) out at
     pub below : ran ≤ mostLines
     pub words : length memory ≡ length memory₀
@@ -63,16 +63,16 @@ module _ {start : Machine} {memory₀ out₀ : List ℕ} {at₀ : ℕ} where
     clocks-so-far : clocks ≤ 176
     clocks-so-far = omega (arith, ap (λ (x : Run). x .clocks) (a .state), clocks-small ran run₀, a .below)
 
-    module _ {memory′ : List ℕ} {r : RunResult} (h : Runs memory [] machine 1 memory′ r)
+    module _ {memory′ : List ℕ} {r : RunResult} (h : Runs memory ledgerBoard machine 1 memory′ r)
         (fits : (0 < length memory₀) × (length memory₀ ≤ mostWords)) where
-      accepted : runVerdict memory [] ≡ Accepted
+      accepted : runVerdict memory ledgerBoard ≡ Accepted
       accepted = run-accepted memory (omega (arith, a .words)) (omega (arith, a .words))
 
       now-is : r ≡ runResult Accepted machine (oneRun machine memory)
-      now-is = returned memory [] machine 1 accepted h
+      now-is = returned memory ledgerBoard machine 1 accepted h
 
       words-are : memory′ ≡ oneRun machine memory .memory
-      words-are = left-in memory [] machine 1 accepted h
+      words-are = left-in memory ledgerBoard machine 1 accepted h
 
       pub total-fits : clocks + r .clocks ≤ 200
       total-fits =
@@ -121,5 +121,5 @@ module _ {start : Machine} {memory₀ out₀ : List ℕ} {at₀ : ℕ} where
         let all : ran ≡ mostLines = omega (arith, a .below) in
         record {
           text = rw (finished-text run₀ (a .state) all) at (top ⊳ a .text ⊳ put);
-          words = sym (ap (λ (x : Run). x .memory) (a .state)) ∙ ap (λ (n : ℕ). interpret [] n run₀ .memory) all;
+          words = sym (ap (λ (x : Run). x .memory) (a .state)) ∙ ap (λ (n : ℕ). interpret ledgerBoard n run₀ .memory) all;
         }

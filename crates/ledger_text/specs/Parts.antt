@@ -2,7 +2,7 @@
 -- buffer's end are left out. Document 01, "The ledger program"; CR 5.
 use Prim.Native.Nat.{ℕ, _+_, _≤_}
 use mathlib.Core.Path.{_≡_}
-use mathlib.Core.List.{List, []}
+use mathlib.Core.List.{List}
 use lib.ListN.{length}
 use lib.Seq.{sets}
 use Rattle.model.specs.declared.Machine.{Machine}
@@ -10,7 +10,7 @@ use Rattle.model.specs.declared.Ending.{Ending}
 use Rattle.model.specs.declared.Ending.the-variants.{Finished, Outside, NoInstruction}
 use Rattle.model.specs.Interpreter.{begin, interpret}
 use Rattle.interpreter.specs.declared.RunAnswer.{RunAnswer}
-use Rattle.ledger_lines.specs.Lines.{mostLines, runText}
+use Rattle.ledger_lines.specs.Lines.{mostLines, ledgerBoard, runText}
 
 -- a text put in from a place on, and the place after it
 pub record Extends (out : List ℕ) (at : ℕ) (text out′ : List ℕ) (next : ℕ) : Type 0 where
@@ -32,4 +32,4 @@ endingOf (RunAnswer.Refused why) = Outside
 -- a run on a memory: its text in the buffer from the start, and the words that it leaves
 pub record RunPuts (start : Machine) (memory out memory′ out′ : List ℕ) (size : ℕ) : Type 0 where
   pub text : Extends out 0 (runText (begin start memory 0)) out′ size
-  pub words : memory′ ≡ interpret [] mostLines (begin start memory 0) .memory
+  pub words : memory′ ≡ interpret ledgerBoard mostLines (begin start memory 0) .memory

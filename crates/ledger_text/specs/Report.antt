@@ -2,18 +2,18 @@
 use Prim.Native.Nat.{ℕ}
 use mathlib.Core.Path.{_≡_}
 use mathlib.Core.Bool.{Bool, cond}
-use mathlib.Core.List.{List, []}
+use mathlib.Core.List.{List}
 use lib.Dec.{leb}
 use lib.ListN.{length, take}
 use Rattle.model.specs.Words.{overlay}
 use Rattle.model.specs.Interpreter.{begin, interpret}
 use Rattle.image.specs.Reading.{Outcome, loaded, refused, readOf}
-use Rattle.ledger_lines.specs.Lines.{mostLines, longestText, ledger}
+use Rattle.ledger_lines.specs.Lines.{mostLines, ledgerBoard, longestText, ledger}
 use Rattle.ledger_text.specs.declared.ReportAnswer.{ReportAnswer}
 
 -- the words of the image at the memory's front, as the run leaves them; the others, and all of them after a refusal, stay
 abbrev pub ledgerWords : Outcome → (memory : List ℕ) → List ℕ
-ledgerWords (loaded version machine words) memory = overlay (interpret [] mostLines (begin machine words 0) .memory) memory
+ledgerWords (loaded version machine words) memory = overlay (interpret ledgerBoard mostLines (begin machine words 0) .memory) memory
 ledgerWords (refused why) memory = memory
 
 -- the output has room for every ledger

@@ -9,12 +9,12 @@ use model::Ending;
 use model::Machine;
 use operands::load;
 ghost use mathlib.Core.Path.{_≡_};
-ghost use mathlib.Core.List.{[]};
 ghost use Prim.Native.Nat.{_≤_, _<_};
 ghost use lib.ListN.{length};
 ghost use Rattle.model.specs.Words.{wordAt};
 ghost use Rattle.model.specs.Refusals.{mostWords};
 ghost use Rattle.interpreter.specs.Calls.{Runs};
+ghost use Rattle.ledger_lines.specs.Lines.{ledgerBoard};
 ghost use Rattle.ledger_text.specs.Parts.{endingOf, RunPuts};
 
 const MOST_LINES: u64 = 16;
@@ -27,10 +27,10 @@ fn word_under(memory: &[u32], address: u32) -> u32
 }
 
 fn run_one(memory: &mut [u32], machine: Machine) -> RunResult
-    ensures { λ r. ⌜ Runs (now (memory .entry)) [] machine 1 (now (memory .exit)) r ⌝ }
+    ensures { λ r. ⌜ Runs (now (memory .entry)) ledgerBoard machine 1 (now (memory .exit)) r ⌝ }
 {
     let no_waits: [u16; 0] = [];
-    run(memory, &no_waits, machine, 1)
+    run(memory, 0, &no_waits, machine, 1)
 }
 
 // How a run ended. One on an image's words is never refused.

@@ -3,9 +3,9 @@
 use Prim.Native.Nat.{ℕ, zero, suc, _≤_}
 use mathlib.Core.Path.{_≡_, refl, sym}
 use mathlib.Core.Bool.{Bool, true, false, cond}
-use mathlib.Core.List.{List}
 use native.Mathlib.Omega.{arith}
 use lib.ListN.{List·getD-eq-default}
+use Rattle.model.specs.Board.{Board}
 use Rattle.model.specs.declared.GateState.{GateState}
 use Rattle.model.specs.Words.{present}
 use Rattle.model.specs.GateMachine.{Gate, withAccess, onState, work, accessRows, isAccess, remaining, positionNow, workOrWait, clock}
@@ -16,11 +16,11 @@ unfolding isAccess
 access-past r h = sym (List·getD-eq-default accessRows false {n = r} (omega arith))
 
 -- in row 12 no clock changes anything
-pub halted-stands : (waits : List ℕ) (g : Gate) → g .state .row ≡ 12 → clock waits g ≡ g
+pub halted-stands : (board : Board) (g : Gate) → g .state .row ≡ 12 → clock board g ≡ g
 unfolding clock work isAccess
-halted-stands waits g e = rw e
+halted-stands board g e = rw e
 
-module _ (waits : List ℕ) (g : Gate) where
+module _ (board : Board) (g : Gate) where
   abbrev s : GateState
   s = g .state
 
@@ -29,23 +29,23 @@ module _ (waits : List ℕ) (g : Gate) where
 
   -- the access over, and not over
   abbrev pub accessOver : Gate → Gate
-  accessOver = onState (λ memory. withAccess (positionNow waits s) false 0)
+  accessOver = onState (λ memory. withAccess (positionNow (board .waits) s) false 0)
 
   abbrev lasting : ℕ → Gate → Gate
-  lasting left = onState (λ memory. withAccess (positionNow waits s) true left)
+  lasting left = onState (λ memory. withAccess (positionNow (board .waits) s) true left)
 
   -- a property of what the clock does to any machine in g's state and memory, as to g itself
   pub one-clock : (P : (Gate → Gate) → Type 0)
-      → (isAccess (s .row) ≡ true → here ≡ true → remaining waits s ≡ 0 → P (λ h. work (accessOver h)))
-      → (isAccess (s .row) ≡ true → here ≡ true → (w : ℕ) → remaining waits s ≡ suc w → P (lasting (suc w)))
+      → (isAccess (s .row) ≡ true → here ≡ true → remaining (board .waits) s ≡ 0 → P (λ h. work (board .bottom) (accessOver h)))
+      → (isAccess (s .row) ≡ true → here ≡ true → (w : ℕ) → remaining (board .waits) s ≡ suc w → P (lasting (suc w)))
       → (isAccess (s .row) ≡ true → here ≡ false → P (λ h. h))
-      → (isAccess (s .row) ≡ false → P work)
-      → P (λ h. cond (isAccess (s .row)) (cond here (workOrWait (remaining waits s) (positionNow waits s) h) h) (work h))
+      → (isAccess (s .row) ≡ false → P (work (board .bottom)))
+      → P (λ h. cond (isAccess (s .row)) (cond here (workOrWait (board .bottom) (remaining (board .waits) s) (positionNow (board .waits) s) h) h) (work (board .bottom) h))
   unfolding workOrWait
-  one-clock P last on gone plain = go (isAccess (s .row)) refl here refl (remaining waits s) refl
+  one-clock P last on gone plain = go (isAccess (s .row)) refl here refl (remaining (board .waits) s) refl
     where
-      go : (a : Bool) → isAccess (s .row) ≡ a → (t : Bool) → here ≡ t → (w : ℕ) → remaining waits s ≡ w
-          → P (λ h. cond a (cond t (workOrWait w (positionNow waits s) h) h) (work h))
+      go : (a : Bool) → isAccess (s .row) ≡ a → (t : Bool) → here ≡ t → (w : ℕ) → remaining (board .waits) s ≡ w
+          → P (λ h. cond a (cond t (workOrWait (board .bottom) w (positionNow (board .waits) s) h) h) (work (board .bottom) h))
       go true a true t zero e = last a t e
       go true a true t (suc w) e = on a t w e
       go true a false t w e = gone a t

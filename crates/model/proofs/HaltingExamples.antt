@@ -10,6 +10,7 @@ use Rattle.model.specs.declared.Ending.the-variants.{Finished, Outside, 
 use Rattle.model.specs.Words.{field, bit, isInstruction}
 use Rattle.model.specs.Operands.{operandA, operandB}
 use Rattle.model.specs.Waits.{waitAt, nextPosition}
+use Rattle.model.specs.Board.{boardWith}
 use Rattle.model.specs.Interpreter.{machineWith, nextEnding}
 use Rattle.model.specs.GateMachine.{Gate, gate, atRest, withRow, withInstruction, withAccess, work, isAccess, remaining, positionNow, workOrWait, clock, gateRun}
 use Rattle.model.specs.Packed.{noFlags}
@@ -45,7 +46,7 @@ abbrev start : GateState
 start = atRest (replicate 8 0) noFlags
 
 after : ℕ → Gate
-after k = gateRun (1 ∷ 7 ∷ []) k (gateFrom start (0x4000 ∷ []))
+after k = gateRun (boardWith 0 (1 ∷ 7 ∷ [])) k (gateFrom start (0x4000 ∷ []))
 
 -- row 0, the read, its wait; then row 12 with the word latched, at the list's second entry, and nothing more
 halting-read : map after (2 ∷ 3 ∷ 4 ∷ 9 ∷ [])

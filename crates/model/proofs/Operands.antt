@@ -1,16 +1,18 @@
--- Laws on operands and words: a register is one of eight, an absent word reads as 0, and what was stepped down can be put back.
+-- Laws on operands and words: a register is one of eight, an absent word reads as 0, a store keeps the memory's length, and what was stepped
+-- down can be put back.
 use Prim.Native.Nat.{ℕ, _%_, _≤_, _<_}
-use mathlib.Core.Path.{_≡_, sym, _∙_}
+use mathlib.Core.Path.{_≡_, refl, sym, _∙_}
 use mathlib.Core.Bool.{true, false}
 use mathlib.Core.List.{List, [], _∷_}
 use native.Mathlib.Omega.{arith}
-use lib.ListN.{length, set, List·getD-eq-default}
+use lib.ListN.{length, set, length-set, List·getD-eq-default}
 use lib.Seq.{set-getD, set-set}
 use borrow.Author.Tests.{lt-ltb, le-ltb}
 use Rattle.model.specs.declared.Operand.{Operand}
 use Rattle.model.specs.declared.Operand.the-variants.{Direct, Indirect, Before, After}
-use Rattle.model.specs.Words.{inc, wordAt, present}
+use Rattle.model.specs.Words.{inc, wordAt, present, alterable, storeAbove}
 use Rattle.model.specs.Operands.{operand, registerOf, stepped, stepDown, registerWord, setRegister}
+use Rattle.model.proofs.Cases.{pick}
 
 pub after : (mode r : ℕ) → 3 ≤ mode → After r ≡ operand mode r
 after mode r h = sym (List·getD-eq-default (Direct r ∷ Indirect r ∷ Before r ∷ []) (After r) {n = mode} h)
@@ -24,6 +26,11 @@ register-small (Direct r) = omega arith
 register-small (Indirect r) = omega arith
 register-small (Before r) = omega arith
 register-small (After r) = omega arith
+
+-- a store alters no length
+pub stored-length : (bottom : ℕ) (memory : List ℕ) (address word : ℕ) → length (storeAbove bottom memory address word) ≡ length memory
+stored-length bottom memory address word =
+    pick (λ (l : List ℕ). length l ≡ length memory) (alterable bottom address) (length-set memory address word) refl
 
 -- ---- stepped down, and its old word put back
 

@@ -5,7 +5,7 @@ use mathlib.Core.Bool.{Bool, true, false, cond, _&&_, and-eq-true-iff}
 use mathlib.Core.List.{List}
 use native.Mathlib.Omega.{arith}
 use lib.Dec.{eqb, ltb, leb}
-use lib.ListN.{length, getD, length-set}
+use lib.ListN.{length, getD}
 use borrow.Author.Tests.{lt-ltb, le-leb, leb-true, eqb-true}
 use Rattle.model.specs.declared.GateState.{GateState}
 use Rattle.model.specs.declared.Refusal.the-variants.{LongWaitList, BadGateState}
@@ -14,10 +14,12 @@ use Rattle.model.specs.Words.{isInstruction, wordAt}
 use Rattle.model.specs.Operands.{operandA, operandB, inMemory}
 use Rattle.model.specs.Alu.{stores}
 use Rattle.model.specs.Waits.{positionFits}
+use Rattle.model.specs.Board.{Board}
 use Rattle.model.specs.GateMachine.{Gate, gate, withAccess, onState, addressPc, readInstruction, stepPc, prepareA, readA, prepareB, readB, compute, writeRegister, writeMemory, stepUpA, stepUpB, halt, rows, work, isAccess, positionNow, clock, gateRun}
-use Rattle.model.specs.Refusals.{mostWaits, _then_, memoryFits, waitsFit, accessFormed, stateFits, gateVerdict}
+use Rattle.model.specs.Refusals.{mostWaits, _then_, memoryFits, bottomFits, waitsFit, accessFormed, stateFits, gateVerdict}
 use Rattle.model.specs.Agreement.{gateFrom}
 use Rattle.model.proofs.Cases.{pick, Each, past, _▸_}
+use Rattle.model.proofs.Operands.{stored-length}
 use Rattle.model.proofs.Waits.{next-fits}
 use Rattle.model.proofs.Clocks.{accessOver, one-clock}
 use Rattle.model.proofs.Verdicts.{demanded, both}
@@ -73,17 +75,17 @@ Low t = t .row < 13
 abbrev Same : GateState → GateState → Type 0
 Same s t = t ≡ withAccess (s .position) (s .begun) (s .left) t
 
-writes-keep : Keeps writeMemory
+writes-keep : (bottom : ℕ) → Keeps (writeMemory bottom)
 unfolding Keeps
-writes-keep g l = record { row = omega arith; access = refl; words = length-set (g .memory) (g .state .address) (g .state .result) }
+writes-keep bottom g l = record { row = omega arith; access = refl; words = stored-length bottom (g .memory) (g .state .address) (g .state .result) }
 
 finish-keeps : Keeps stepUpB
 unfolding Keeps
 finish-keeps g l = record { row = omega arith; access = refl; words = refl }
 
-rows-keep : Each (λ r. Keeps (getD rows r (λ h. h)))
+rows-keep : (bottom : ℕ) → Each (λ r. Keeps (getD (rows bottom) r (λ h. h)))
 unfolding Keeps
-rows-keep =
+rows-keep bottom =
     keeps addressPc (λ m s. omega arith) (λ m s. refl)
     ▸ keeps readInstruction (λ m s. pick (λ (n : ℕ). n < 13) (isInstruction (wordAt m (s .address))) (omega arith) (omega arith)) (λ m s. refl)
     ▸ keeps stepPc (λ m s. omega arith) (λ m s. refl)
@@ -93,15 +95,15 @@ rows-keep =
     ▸ keeps readB (λ m s. omega arith) (λ m s. refl)
     ▸ keeps compute (λ m s. pick (λ (n : ℕ). n < 13) (stores (s .instruction) (s .flags)) (pick (λ (n : ℕ). n < 13) (inMemory (operandB (s .instruction))) (omega arith) (omega arith)) (omega arith)) (λ m s. refl)
     ▸ keeps writeRegister (λ m s. omega arith) (λ m s. refl)
-    ▸ writes-keep
+    ▸ writes-keep bottom
     ▸ keeps stepUpA (λ m s. omega arith) (λ m s. refl)
     ▸ finish-keeps
     ▸ keeps halt (λ m s. omega arith) (λ m s. refl)
     ▸ past (λ r g l. record { row = l; access = refl; words = refl })
 
-work-keeps : Keeps work
+work-keeps : (bottom : ℕ) → Keeps (work bottom)
 unfolding Keeps work
-work-keeps g l = rows-keep .at (g .state .row) g l
+work-keeps bottom g l = rows-keep bottom .at (g .state .row) g l
 
 -- ---- one clock, and a run
 
@@ -109,71 +111,73 @@ record Fine (waits : List ℕ) (words : ℕ) (g : Gate) : Type 0 where
   valid : Valid waits (g .state)
   length : lib.ListN.length (g .memory) ≡ words
 
-module _ (waits : List ℕ) where
-  position-fits : (s : GateState) → positionFits waits (s .position) ≡ true → positionFits waits (positionNow waits s) ≡ true
+module _ (board : Board) where
+  position-fits : (s : GateState) → positionFits (board .waits) (s .position) ≡ true → positionFits (board .waits) (positionNow (board .waits) s) ≡ true
   unfolding positionNow
-  position-fits s h = pick (λ (p : ℕ). positionFits waits p ≡ true) (s .begun) h (next-fits waits (s .position) h)
+  position-fits s h = pick (λ (p : ℕ). positionFits (board .waits) p ≡ true) (s .begun) h (next-fits (board .waits) (s .position) h)
 
   -- the work of a row that has no access begun
-  works : (words : ℕ) (g : Gate) → g .state .row < 13 → positionFits waits (g .state .position) ≡ true → g .state .begun ≡ false → g .state .left ≡ 0 → length (g .memory) ≡ words → Fine waits words (work g)
+  works : (words : ℕ) (g : Gate) → g .state .row < 13 → positionFits (board .waits) (g .state .position) ≡ true → g .state .begun ≡ false → g .state .left ≡ 0 → length (g .memory) ≡ words → Fine (board .waits) words (work (board .bottom) g)
   unfolding Keeps
   works words g r p b l w =
-      let k = work-keeps g r in
+      let k = work-keeps (board .bottom) g r in
       record {
-        valid = resting waits (work g .state) (k .row) (rw (ap (λ (s : GateState). s .position) (k .access)) p) (ap (λ (s : GateState). s .begun) (k .access) ∙ b) (ap (λ (s : GateState). s .left) (k .access) ∙ l);
+        valid = resting (board .waits) (work (board .bottom) g .state) (k .row) (rw (ap (λ (s : GateState). s .position) (k .access)) p) (ap (λ (s : GateState). s .begun) (k .access) ∙ b) (ap (λ (s : GateState). s .left) (k .access) ∙ l);
         length = k .words ∙ w;
       }
 
-  clock-fine : (words : ℕ) (g : Gate) → Fine waits words g → Fine waits words (clock waits g)
+  clock-fine : (words : ℕ) (g : Gate) → Fine (board .waits) words g → Fine (board .waits) words (clock board g)
   unfolding clock
   clock-fine words g h =
       let fits = position-fits (g .state) (h .valid .position) in
-      one-clock waits g (λ (c : Gate → Gate). Fine waits words (c g))
-      (λ _ _ _. works words (accessOver waits g g) (h .valid .row) fits refl refl (h .length))
+      one-clock board g (λ (c : Gate → Gate). Fine (board .waits) words (c g))
+      (λ _ _ _. works words (accessOver board g g) (h .valid .row) fits refl refl (h .length))
       (λ access _ w _. record { valid = record { row = h .valid .row; position = fits; access = rw (access, lt-ltb 0 (suc w) (omega arith)) }; length = h .length })
       (λ _ _. h)
       (λ plain.
       let n = none-begun (g .state) plain (h .valid .access) in
       works words g (h .valid .row) (h .valid .position) (n .0) (n .1) (h .length))
 
-  run-fine : (words k : ℕ) (g : Gate) → Fine waits words g → Fine waits words (gateRun waits k g)
+  run-fine : (words k : ℕ) (g : Gate) → Fine (board .waits) words g → Fine (board .waits) words (gateRun board k g)
   unfolding gateRun
   run-fine words zero g h = h
-  run-fine words (suc k) g h = clock-fine words (gateRun waits k g) (run-fine words k g h)
+  run-fine words (suc k) g h = clock-fine words (gateRun board k g) (run-fine words k g h)
 
 -- ---- a call that is carried out
 
 -- nothing that a run asks fails
-record Passed (memory waits : List ℕ) (start : GateState) : Type 0 where
+record Passed (memory : List ℕ) (board : Board) (start : GateState) : Type 0 where
   words : memoryFits memory ≡ Accepted
-  list : waitsFit waits ≡ Accepted
-  state : stateFits waits start ≡ Accepted
+  bottom : bottomFits memory (board .bottom) ≡ Accepted
+  list : waitsFit (board .waits) ≡ Accepted
+  state : stateFits (board .waits) start ≡ Accepted
 
-module _ (memory waits : List ℕ) (start : GateState) (e : gateVerdict memory waits start ≡ Accepted) where
-  passed : Passed memory waits start
+module _ (memory : List ℕ) (board : Board) (start : GateState) (e : gateVerdict memory board start ≡ Accepted) where
+  passed : Passed memory board start
   unfolding gateVerdict
   passed =
-      let (m, ws) = both (memoryFits memory) (waitsFit waits then stateFits waits start) e in
-      let (w, s) = both (waitsFit waits) (stateFits waits start) ws in
-      record { words = m; list = w; state = s }
+      let (m, bws) = both (memoryFits memory) (bottomFits memory (board .bottom) then waitsFit (board .waits) then stateFits (board .waits) start) e in
+      let (b, ws) = both (bottomFits memory (board .bottom)) (waitsFit (board .waits) then stateFits (board .waits) start) bws in
+      let (w, s) = both (waitsFit (board .waits)) (stateFits (board .waits) start) ws in
+      record { words = m; bottom = b; list = w; state = s }
 
-  pub short : length waits ≤ mostWaits
-  short = leb-true (length waits) mostWaits (demanded _ LongWaitList (passed .list))
+  pub short : length (board .waits) ≤ mostWaits
+  short = leb-true (length (board .waits)) mostWaits (demanded _ LongWaitList (passed .list))
 
   -- every state that the run comes to is one that a run takes
-  comes-fine : (i : ℕ) → Fine waits (length memory) (gateRun waits i (gateFrom start memory))
-  comes-fine i = run-fine waits (length memory) i (gateFrom start memory) (record { valid = verdict-valid waits start (passed .state); length = refl })
+  comes-fine : (i : ℕ) → Fine (board .waits) (length memory) (gateRun board i (gateFrom start memory))
+  comes-fine i = run-fine board (length memory) i (gateFrom start memory) (record { valid = verdict-valid (board .waits) start (passed .state); length = refl })
 
-  pub row-there : (i : ℕ) {s : GateState} {m : List ℕ} {f : ℕ} → gate s m f ≡ gateRun waits i (gateFrom start memory) → s .row < 13
+  pub row-there : (i : ℕ) {s : GateState} {m : List ℕ} {f : ℕ} → gate s m f ≡ gateRun board i (gateFrom start memory) → s .row < 13
   row-there i q = rw (ap (λ (g : Gate). g .state .row) q) (comes-fine i .valid .row)
 
   -- the verdict looks at the memory's length and at the state's validity
-  still-accepted : (g : Gate) → Fine waits (length memory) g → gateVerdict (g .memory) waits (g .state) ≡ Accepted
+  still-accepted : (g : Gate) → Fine (board .waits) (length memory) g → gateVerdict (g .memory) board (g .state) ≡ Accepted
   unfolding gateVerdict
-  still-accepted g f = rw (f .length, passed .words, passed .list) (valid-verdict waits (g .state) (f .valid))
+  still-accepted g f = rw (f .length, passed .words, passed .bottom, passed .list) (valid-verdict (board .waits) (g .state) (f .valid))
 
   -- the state and the memory that a run leaves are taken by the next
-  pub next-accepted : (i : ℕ) {s : GateState} {m : List ℕ} {f : ℕ} → gate s m f ≡ gateRun waits i (gateFrom start memory) → gateVerdict m waits s ≡ Accepted
+  pub next-accepted : (i : ℕ) {s : GateState} {m : List ℕ} {f : ℕ} → gate s m f ≡ gateRun board i (gateFrom start memory) → gateVerdict m board s ≡ Accepted
   next-accepted i q =
-      ap (λ (g : Gate). gateVerdict (g .memory) waits (g .state)) q
-      ∙ still-accepted (gateRun waits i (gateFrom start memory)) (comes-fine i)
+      ap (λ (g : Gate). gateVerdict (g .memory) board (g .state)) q
+      ∙ still-accepted (gateRun board i (gateFrom start memory)) (comes-fine i)

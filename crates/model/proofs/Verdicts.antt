@@ -4,14 +4,15 @@ use mathlib.Core.Path.{_≡_, refl, sym, _∙_}
 use mathlib.Core.Bool.{Bool, true, false}
 use mathlib.Core.List.{List, []}
 use native.Mathlib.Omega.{arith}
-use lib.Dec.{ltb, leb}
+use lib.Dec.{ltb, leb, leb·zero}
 use lib.ListN.{length}
 use borrow.Author.Tests.{ltb-true, lt-ltb, le-leb, leb-true}
 use Rattle.model.specs.declared.Refusal.{Refusal}
-use Rattle.model.specs.declared.Refusal.the-variants.{NoWords, TooManyWords, LongWaitList, BadGateState, TooManyInstructions, ShortJournal, ShortOutput, CutImage, WrongTag, WrongLength, WrongVersion, BadFlag, BadWordCount, ShortMemory, TrailingBytes}
+use Rattle.model.specs.declared.Refusal.the-variants.{NoWords, TooManyWords, LongWaitList, BadGateState, TooManyInstructions, ShortJournal, ShortOutput, CutImage, WrongTag, WrongLength, WrongVersion, BadFlag, BadWordCount, ShortMemory, TrailingBytes, BottomTooHigh}
 use Rattle.model.specs.declared.Verdict.{Verdict}
 use Rattle.model.specs.declared.Verdict.the-variants.{Accepted, Refused}
-use Rattle.model.specs.Refusals.{refusalNumber, verdictNumber, mostWords, mostInstructions, demand, _then_, memoryFits, runVerdict, fileVerdict}
+use Rattle.model.specs.Board.{boardWith}
+use Rattle.model.specs.Refusals.{refusalNumber, verdictNumber, mostWords, mostInstructions, demand, _then_, memoryFits, bottomFits, runVerdict, fileVerdict}
 
 pub then-assoc : (u v w : Verdict) → ((u then v) then w) ≡ (u then (v then w))
 then-assoc Accepted v w = refl
@@ -37,21 +38,21 @@ memory-bounds memory e =
 pub memory-accepted : (memory : List ℕ) → 0 < length memory → length memory ≤ mostWords → memoryFits memory ≡ Accepted
 memory-accepted memory some most = rw (lt-ltb 0 (length memory) some, le-leb (length memory) mostWords most)
 
--- a run on such a memory with no wait list
-pub run-accepted : (memory : List ℕ) → 0 < length memory → length memory ≤ mostWords → runVerdict memory [] ≡ Accepted
+-- a run on such a memory with no wait list and the bottom at 0
+pub run-accepted : (memory : List ℕ) → 0 < length memory → length memory ≤ mostWords → runVerdict memory (boardWith 0 []) ≡ Accepted
 unfolding runVerdict
-run-accepted memory some most = rw (memory-accepted memory some most)
+run-accepted memory some most = rw (memory-accepted memory some most, leb·zero (length memory))
 
 -- the journal of an accepted file run has room for every pair
-pub room-for-all : (memory journal : List ℕ) (count : ℕ) {v : Verdict} → v ≡ Accepted → v ≡ fileVerdict memory journal count → 2 * count ≤ length journal
+pub room-for-all : (memory : List ℕ) (bottom : ℕ) (journal : List ℕ) (count : ℕ) {v : Verdict} → v ≡ Accepted → v ≡ fileVerdict memory bottom journal count → 2 * count ≤ length journal
 unfolding fileVerdict
-room-for-all memory journal count p e =
+room-for-all memory bottom journal count p e =
     let few = demand (leb count mostInstructions) TooManyInstructions in
     let room = demand (leb (2 * count) (length journal)) ShortJournal in
-    leb-true (2 * count) (length journal) (demanded (leb (2 * count) (length journal)) ShortJournal (both few room (both (memoryFits memory) (few then room) (sym e ∙ p) .1) .1))
+    leb-true (2 * count) (length journal) (demanded (leb (2 * count) (length journal)) ShortJournal (both few room (both (bottomFits memory bottom) (few then room) (both (memoryFits memory) (bottomFits memory bottom then few then room) (sym e ∙ p) .1) .1) .1))
 
--- a refusal has a number from 1 to 15
-pub numbered : (why : Refusal) → (1 ≤ refusalNumber why) × (refusalNumber why ≤ 15)
+-- a refusal has a number from 1 to 21
+pub numbered : (why : Refusal) → (1 ≤ refusalNumber why) × (refusalNumber why ≤ 21)
 numbered NoWords = (omega arith, omega arith)
 numbered TooManyWords = (omega arith, omega arith)
 numbered LongWaitList = (omega arith, omega arith)
@@ -67,6 +68,7 @@ numbered BadFlag = (omega arith, omega arith)
 numbered BadWordCount = (omega arith, omega arith)
 numbered ShortMemory = (omega arith, omega arith)
 numbered TrailingBytes = (omega arith, omega arith)
+numbered BottomTooHigh = (omega arith, omega arith)
 
 pub accepted : (v : Verdict) → verdictNumber v ≡ 0 → v ≡ Accepted
 accepted Accepted e = refl

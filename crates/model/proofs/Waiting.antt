@@ -4,6 +4,7 @@ use mathlib.Core.Path.{_≡_, refl, sym, ap, _∙_}
 use mathlib.Core.Bool.{Bool, true, false, cond}
 use mathlib.Core.List.{List, []}
 use Rattle.model.specs.declared.Ending.{Ending}
+use Rattle.model.specs.Board.{boardWith}
 use Rattle.model.specs.Interpreter.{goesOn, nextEnding, nextRuns, Run, execute, stop, advance, interpret}
 use Rattle.model.specs.Waiting.{Work, workOf, WaitsOnlyWait}
 
@@ -11,26 +12,27 @@ use Rattle.model.specs.Waiting.{Work, workOf, WaitsOnlyWait}
 abbrev bare : Work → Run
 bare w = record { machine = w .machine; memory = w .memory; position = 0; ran = w .ran; clocks = 0; ending = w .ending }
 
--- one more instruction's work
-next : Work → Work
-next w = workOf (advance [] (bare w))
+module _ (bottom : ℕ) where
+  -- one more instruction's work
+  next : Work → Work
+  next w = workOf (advance (boardWith bottom []) (bare w))
 
-advance-work : (waits : List ℕ) (r : Run) → workOf (advance waits r) ≡ next (workOf r)
-unfolding next advance execute stop
-advance-work waits r = go (goesOn (r .ending)) (nextRuns (r .memory) (r .machine))
-  where
-    why : Ending
-    why = nextEnding (r .memory) (r .machine)
+  advance-work : (waits : List ℕ) (r : Run) → workOf (advance (boardWith bottom waits) r) ≡ next (workOf r)
+  unfolding next advance execute stop
+  advance-work waits r = go (goesOn (r .ending)) (nextRuns (r .memory) (r .machine))
+    where
+      why : Ending
+      why = nextEnding (r .memory) (r .machine)
 
-    go : (s t : Bool)
-        → workOf (cond s (cond t (execute waits r) (stop why r)) r)
-        ≡ workOf (cond s (cond t (execute [] (bare (workOf r))) (stop why (bare (workOf r)))) (bare (workOf r)))
-    go true true = refl
-    go true false = refl
-    go false t = refl
+      go : (s t : Bool)
+          → workOf (cond s (cond t (execute (boardWith bottom waits) r) (stop why r)) r)
+          ≡ workOf (cond s (cond t (execute (boardWith bottom []) (bare (workOf r))) (stop why (bare (workOf r)))) (bare (workOf r)))
+      go true true = refl
+      go true false = refl
+      go false t = refl
 
 pub waits-only-wait : WaitsOnlyWait
 unfolding interpret
-waits-only-wait waits waits′ start memory p p′ zero = refl
-waits-only-wait waits waits′ start memory p p′ (suc n) =
-    advance-work waits _ ∙ ap next (waits-only-wait waits waits′ start memory p p′ n) ∙ sym (advance-work waits′ _)
+waits-only-wait bottom waits waits′ start memory p p′ zero = refl
+waits-only-wait bottom waits waits′ start memory p p′ (suc n) =
+    advance-work bottom waits _ ∙ ap (next bottom) (waits-only-wait bottom waits waits′ start memory p p′ n) ∙ sym (advance-work bottom waits′ _)

@@ -1,4 +1,5 @@
--- The gate machine: thirteen rows of a step table, the access protocol, one clock, and the run of k clocks. Document 01, "Clocks"; CR 5.
+-- The gate machine: thirteen rows of a step table, the access protocol, one clock, and the run of k clocks. Document 01, "Clocks"; CR 5
+-- and CR 6.
 use Prim.Native.Nat.{ℕ, zero, suc, _+_, _-_}
 use mathlib.Core.Bool.{Bool, true, false, cond}
 use mathlib.Core.List.{List, [], _∷_}
@@ -6,10 +7,11 @@ use lib.ListN.{getD}
 use Rattle.model.specs.declared.Flags.{Flags}
 use Rattle.model.specs.declared.Operand.{Operand}
 use Rattle.model.specs.declared.GateState.{GateState}
-use Rattle.model.specs.Words.{inc, isInstruction, wordAt, present, storeWord}
+use Rattle.model.specs.Words.{inc, isInstruction, wordAt, present, storeAbove}
 use Rattle.model.specs.Operands.{operandA, operandB, inMemory, stepped, stepDown, stepUp, registerWord, setRegister}
 use Rattle.model.specs.Alu.{alu, flagsAfter, stores}
 use Rattle.model.specs.Waits.{waitAt, nextPosition}
+use Rattle.model.specs.Board.{Board}
 
 -- ---- a state, part by part, and with one part changed
 
@@ -129,9 +131,10 @@ abbrev pub writeRegister : List ℕ → GateState → GateState
 writeRegister memory s =
     withRow 10 (withRegs (setRegister (operandB (s .instruction)) (s .result) (s .regs)) s)
 
-abbrev pub writeMemory : Gate → Gate
-writeMemory g =
-    gate (withRow 10 (g .state)) (storeWord (g .memory) (g .state .address) (g .state .result)) (g .finished)
+-- CR 6: the store knows the bottom
+abbrev pub writeMemory : (bottom : ℕ) → Gate → Gate
+writeMemory bottom g =
+    gate (withRow 10 (g .state)) (storeAbove bottom (g .memory) (g .state .address) (g .state .result)) (g .finished)
 
 abbrev pub stepUpA : List ℕ → GateState → GateState
 stepUpA memory s = withRow 11 (withRegs (stepUp (operandA (s .instruction)) (s .regs)) s)
@@ -145,8 +148,8 @@ stepUpB g =
 abbrev pub halt : List ℕ → GateState → GateState
 halt memory s = withRow 12 s
 
-abbrev pub rows : List (Gate → Gate)
-rows =
+abbrev pub rows : (bottom : ℕ) → List (Gate → Gate)
+rows bottom =
     onState addressPc  -- 0: address from r0
     ∷ onState readInstruction  -- 1: read instruction
     ∷ onState stepPc  -- 2: r0 plus 1
@@ -156,15 +159,15 @@ rows =
     ∷ onState readB  -- 6: read B
     ∷ onState compute  -- 7: compute; decide storing on old flags; set flags
     ∷ onState writeRegister  -- 8: store to register
-    ∷ writeMemory  -- 9: store to memory
+    ∷ writeMemory bottom  -- 9: store to memory
     ∷ onState stepUpA  -- 10: A step up
     ∷ stepUpB  -- 11: B step up; one more finished
     ∷ onState halt  -- 12: halted
     ∷ []
 
 -- the work of the row that the machine is in; there is no row past the table
-unfoldable pub work : Gate → Gate
-work g = getD rows (g .state .row) (λ h. h) g
+unfoldable pub work : (bottom : ℕ) → Gate → Gate
+work bottom g = getD (rows bottom) (g .state .row) (λ h. h) g
 
 -- rows 1, 4, 6 and 9
 abbrev pub accessRows : List Bool
@@ -183,18 +186,19 @@ unfoldable pub positionNow : List ℕ → GateState → ℕ
 positionNow waits s = cond (s .begun) (s .position) (nextPosition waits (s .position))
 
 -- an access with `remaining` clocks after this one: on the last one the row's work is done
-unfoldable pub workOrWait : (remaining position : ℕ) → Gate → Gate
-workOrWait zero p g = work (onState (λ memory. withAccess p false 0) g)
-workOrWait (suc w) p g = onState (λ memory. withAccess p true (suc w)) g
+unfoldable pub workOrWait : (bottom remaining position : ℕ) → Gate → Gate
+workOrWait bottom zero p g = work bottom (onState (λ memory. withAccess p false 0) g)
+workOrWait bottom (suc w) p g = onState (λ memory. withAccess p true (suc w)) g
 
 -- an absent address is never acknowledged
-unfoldable pub clock : List ℕ → Gate → Gate
-clock waits g =
+unfoldable pub clock : Board → Gate → Gate
+clock board g =
     let s = g .state in
+    let waits = board .waits in
     cond (isAccess (s .row))
-    (cond (present (g .memory) (s .address)) (workOrWait (remaining waits s) (positionNow waits s) g) g)
-    (work g)
+    (cond (present (g .memory) (s .address)) (workOrWait (board .bottom) (remaining waits s) (positionNow waits s) g) g)
+    (work (board .bottom) g)
 
-unfoldable pub gateRun : List ℕ → ℕ → Gate → Gate
-gateRun waits zero g = g
-gateRun waits (suc k) g = clock waits (gateRun waits k g)
+unfoldable pub gateRun : Board → ℕ → Gate → Gate
+gateRun board zero g = g
+gateRun board (suc k) g = clock board (gateRun board k g)

@@ -7,6 +7,7 @@ use mathlib.Core.List.{List}
 use Rattle.model.specs.declared.GateState.{GateState}
 use Rattle.model.specs.declared.Ending.the-variants.{NoInstruction}
 use Rattle.model.specs.Waits.{waitAt, nextPosition}
+use Rattle.model.specs.Board.{Board}
 use Rattle.model.specs.Interpreter.{instruction, Run, interpret}
 use Rattle.model.specs.GateMachine.{Gate, gateRun}
 use Rattle.model.specs.Agreement.{Between, machineOf, gateFrom, interpreterFrom}
@@ -30,9 +31,9 @@ pub record Halts (waits : List ℕ) (r : Run) (k : ℕ) (g : Gate) : Type 0 wher
   pub row : g .state .row ≡ 12 ↔ (haltedAfter waits r ≤ k)
   pub halted : haltedAfter waits r ≤ k → Halted waits r g
 
--- whatever the program, the state and the waits, wherever the run ends "no instruction"
+-- whatever the program, the state and the board, wherever the run ends "no instruction"
 abbrev pub Halting : Type 0
 Halting =
-    (waits : List ℕ) (s : GateState) (memory : List ℕ) (n k : ℕ) → Between s →
-    let r = interpret waits n (interpreterFrom s memory) in
-    r .ending ≡ NoInstruction → Halts waits r k (gateRun waits k (gateFrom s memory))
+    (board : Board) (s : GateState) (memory : List ℕ) (n k : ℕ) → Between s →
+    let r = interpret board n (interpreterFrom s memory) in
+    r .ending ≡ NoInstruction → Halts (board .waits) r k (gateRun board k (gateFrom s memory))

@@ -1,5 +1,5 @@
 -- The interpreter: one instruction in the order (i) to (vi), its clocks, and the run of n instructions with "outside" and "no
--- instruction". Document 01, "Machine and instruction word" and, for the clocks, "Clocks"; CR 5.
+-- instruction". Document 01, "Machine and instruction word" and, for the clocks, "Clocks"; CR 5 and CR 6.
 use Prim.Native.Nat.{ℕ, zero, suc, _+_}
 use mathlib.Core.Bool.{Bool, true, false, cond, _&&_}
 use mathlib.Core.List.{List}
@@ -10,10 +10,11 @@ use Rattle.model.specs.declared.Machine.{Machine}
 use Rattle.model.specs.declared.Operand.{Operand}
 use Rattle.model.specs.declared.Ending.{Ending}
 use Rattle.model.specs.declared.Ending.the-variants.{Finished, Outside, NoInstruction}
-use Rattle.model.specs.Words.{inc, isInstruction, wordAt, present}
+use Rattle.model.specs.Words.{inc, isInstruction, wordAt, present, alterable}
 use Rattle.model.specs.Operands.{operandA, operandB, inMemory, stepped, stepDown, stepUp, registerWord, operandPresent, operandValue, storeInRegister, storeInMemory}
 use Rattle.model.specs.Alu.{alu, flagsAfter, stores}
 use Rattle.model.specs.Waits.{waitSum, positionAfter}
+use Rattle.model.specs.Board.{Board}
 
 -- ---- the clocks of an instruction, from where its operands are and whether its result is stored
 
@@ -106,8 +107,12 @@ module _ (memory : List ℕ) (m : Machine) where
   abbrev pub regsStored : List ℕ
   regsStored = cond isStored (storeInRegister opB (aluOut .result) regsB) regsB
 
-  abbrev pub nextMemory : List ℕ
-  nextMemory = cond isStored (storeInMemory opB (aluOut .result) regsB memory) memory
+  abbrev pub nextMemory : (bottom : ℕ) → List ℕ
+  nextMemory bottom = cond isStored (storeInMemory bottom opB (aluOut .result) regsB memory) memory
+
+  -- CR 6: whether it stores to a word of memory that can be altered
+  abbrev pub altersMemory : (bottom : ℕ) → Bool
+  altersMemory bottom = storesToMemory && alterable bottom addressB
 
   -- (v) and (vi) step A, then B up
   abbrev pub nextMachine : Machine
@@ -136,15 +141,15 @@ begin m memory position =
     record { machine = m; memory = memory; position = position; ran = 0; clocks = 0; ending = Finished }
 
 -- one more instruction, and the stop before one
-unfoldable pub execute : List ℕ → Run → Run
-execute waits r =
+unfoldable pub execute : Board → Run → Run
+execute board r =
     let n = accesses (r .memory) (r .machine) in
     record {
       machine = nextMachine (r .memory) (r .machine);
-      memory = nextMemory (r .memory) (r .machine);
-      position = positionAfter waits (r .position) n;
+      memory = nextMemory (r .memory) (r .machine) (board .bottom);
+      position = positionAfter (board .waits) (r .position) n;
       ran = r .ran + 1;
-      clocks = r .clocks + (baseClocks (r .memory) (r .machine) + waitSum waits (r .position) n);
+      clocks = r .clocks + (baseClocks (r .memory) (r .machine) + waitSum (board .waits) (r .position) n);
       ending = Finished;
     }
 
@@ -160,12 +165,12 @@ stop e r =
     }
 
 -- a run that has stopped stays as it is
-unfoldable pub advance : List ℕ → Run → Run
-advance waits r =
+unfoldable pub advance : Board → Run → Run
+advance board r =
     let memory = r .memory in
     let m = r .machine in
-    cond (goesOn (r .ending)) (cond (nextRuns memory m) (execute waits r) (stop (nextEnding memory m) r)) r
+    cond (goesOn (r .ending)) (cond (nextRuns memory m) (execute board r) (stop (nextEnding memory m) r)) r
 
-unfoldable pub interpret : List ℕ → ℕ → Run → Run
-interpret waits zero r = r
-interpret waits (suc n) r = advance waits (interpret waits n r)
+unfoldable pub interpret : Board → ℕ → Run → Run
+interpret board zero r = r
+interpret board (suc n) r = advance board (interpret board n r)

@@ -1,12 +1,12 @@
 -- Operands: decoding, the register's step before and after the access, the operand's address and value, the store into B. Document 01,
--- "Machine and instruction word", modes and (ii) to (vi).
+-- "Machine and instruction word", modes and (ii) to (vi); CR 6.
 use Prim.Native.Nat.{ℕ, _%_}
 use mathlib.Core.Bool.{Bool, true, false, not, cond, _||_}
 use mathlib.Core.List.{List, [], _∷_}
 use lib.ListN.{getD, set}
 use Rattle.model.specs.declared.Operand.{Operand}
 use Rattle.model.specs.declared.Operand.the-variants.{Direct, Indirect, Before, After}
-use Rattle.model.specs.Words.{inc, dec, field, wordAt, present, storeWord}
+use Rattle.model.specs.Words.{inc, dec, field, wordAt, present, storeAbove}
 
 -- the modes: 0 direct, 1 indirect, 2 indirect after decrement (the register steps down before), 3 indirect then increment (it steps up
 -- after)
@@ -70,5 +70,5 @@ operandValue o regs memory = cond (inMemory o) (wordAt memory (registerWord o re
 abbrev pub storeInRegister : Operand → ℕ → List ℕ → List ℕ
 storeInRegister o x regs = cond (inMemory o) regs (setRegister o x regs)
 
-abbrev pub storeInMemory : Operand → ℕ → List ℕ → List ℕ → List ℕ
-storeInMemory o x regs memory = cond (inMemory o) (storeWord memory (registerWord o regs) x) memory
+abbrev pub storeInMemory : (bottom : ℕ) → Operand → ℕ → List ℕ → List ℕ → List ℕ
+storeInMemory bottom o x regs memory = cond (inMemory o) (storeAbove bottom memory (registerWord o regs) x) memory

@@ -1,5 +1,5 @@
 -- Why a call is turned down: the reasons' numbers, what a call leaves, the limits, and the first reason that applies to each run. Document
--- 01, "Why a call is turned down".
+-- 01, "Why a call is turned down"; CR 3, CR 5 and CR 6.
 use Prim.Native.Nat.{ℕ, _*_}
 use mathlib.Core.Bool.{Bool, true, false, cond, _&&_}
 use mathlib.Core.List.{List}
@@ -7,10 +7,11 @@ use lib.Dec.{eqb, ltb, leb}
 use lib.ListN.{length}
 use Rattle.model.specs.declared.GateState.{GateState}
 use Rattle.model.specs.declared.Refusal.{Refusal}
-use Rattle.model.specs.declared.Refusal.the-variants.{NoWords, TooManyWords, LongWaitList, BadGateState, TooManyInstructions, ShortJournal, ShortOutput, CutImage, WrongTag, WrongLength, WrongVersion, BadFlag, BadWordCount, ShortMemory, TrailingBytes}
+use Rattle.model.specs.declared.Refusal.the-variants.{NoWords, TooManyWords, LongWaitList, BadGateState, TooManyInstructions, ShortJournal, ShortOutput, CutImage, WrongTag, WrongLength, WrongVersion, BadFlag, BadWordCount, ShortMemory, TrailingBytes, BottomTooHigh}
 use Rattle.model.specs.declared.Verdict.{Verdict}
 use Rattle.model.specs.declared.Verdict.the-variants.{Accepted, Refused}
 use Rattle.model.specs.Waits.{positionFits}
+use Rattle.model.specs.Board.{Board}
 use Rattle.model.specs.GateMachine.{isAccess}
 
 abbrev pub refusalNumber : Refusal → ℕ
@@ -29,6 +30,7 @@ refusalNumber BadFlag = 12
 refusalNumber BadWordCount = 13
 refusalNumber ShortMemory = 14
 refusalNumber TrailingBytes = 15
+refusalNumber BottomTooHigh = 21
 
 -- 0 for a call that is carried out
 abbrev pub verdictNumber : Verdict → ℕ
@@ -63,6 +65,10 @@ Refused why then v = Refused why
 abbrev pub memoryFits : List ℕ → Verdict
 memoryFits memory = demand (ltb 0 (length memory)) NoWords then demand (leb (length memory) mostWords) TooManyWords
 
+-- 21, of the bottom that is given with a run's memory
+abbrev pub bottomFits : List ℕ → ℕ → Verdict
+bottomFits memory bottom = demand (leb bottom (length memory)) BottomTooHigh
+
 -- 3
 abbrev pub waitsFit : List ℕ → Verdict
 waitsFit waits = demand (leb (length waits) mostWaits) LongWaitList
@@ -82,11 +88,12 @@ journalFits journal n =
 
 -- ---- the first reason to turn down a run, a file run, a gate run
 
-unfoldable pub runVerdict : (memory waits : List ℕ) → Verdict
-runVerdict memory waits = memoryFits memory then waitsFit waits
+unfoldable pub runVerdict : (memory : List ℕ) → Board → Verdict
+runVerdict memory board = memoryFits memory then bottomFits memory (board .bottom) then waitsFit (board .waits)
 
-unfoldable pub fileVerdict : (memory journal : List ℕ) → ℕ → Verdict
-fileVerdict memory journal n = memoryFits memory then journalFits journal n
+unfoldable pub fileVerdict : (memory : List ℕ) → (bottom : ℕ) → (journal : List ℕ) → ℕ → Verdict
+fileVerdict memory bottom journal n = memoryFits memory then bottomFits memory bottom then journalFits journal n
 
-unfoldable pub gateVerdict : (memory waits : List ℕ) → GateState → Verdict
-gateVerdict memory waits s = memoryFits memory then waitsFit waits then stateFits waits s
+unfoldable pub gateVerdict : (memory : List ℕ) → Board → GateState → Verdict
+gateVerdict memory board s =
+    memoryFits memory then bottomFits memory (board .bottom) then waitsFit (board .waits) then stateFits (board .waits) s

@@ -6,6 +6,7 @@ use lib.Dec.{eqb}
 use Rattle.arithmetic.specs.Words.{asNumber}
 use Rattle.model.specs.declared.GateState.{GateState}
 use Rattle.model.specs.Words.{wordAt}
+use Rattle.model.specs.Board.{boardWith}
 use Rattle.model.specs.Interpreter.{interpret}
 use Rattle.model.specs.GateMachine.{atRest, gateRun}
 use Rattle.model.specs.Agreement.{Mark, interpreterMark, gateMark, gateFrom, interpreterFrom}
@@ -64,8 +65,9 @@ hasAll m k (e ∷ es) = has m k e && hasAll m k es
 abbrev pub passes : Case → Bool
 passes c =
     let s = startOf c in
-    let r = interpret (c .waits) 1 (interpreterFrom s (c .memory)) in
-    let g = gateRun (c .waits) (r .clocks) (gateFrom s (c .memory)) in
+    let board = boardWith 0 (c .waits) in
+    let r = interpret board 1 (interpreterFrom s (c .memory)) in
+    let g = gateRun board (r .clocks) (gateFrom s (c .memory)) in
     hasAll (interpreterMark r) (r .clocks) (c .expected) && hasAll (gateMark g) (r .clocks) (c .expected)
 
 abbrev pub allPass : List Case → Bool

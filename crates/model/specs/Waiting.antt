@@ -1,10 +1,11 @@
 -- What the wait list leaves alone: it changes a run's clocks and position, and nothing else. Document 01, "Clocks" and "File run and
--- journal".
+-- journal"; CR 6.
 use Prim.Native.Nat.{ℕ}
 use mathlib.Core.Path.{_≡_}
 use mathlib.Core.List.{List}
 use Rattle.model.specs.declared.Machine.{Machine}
 use Rattle.model.specs.declared.Ending.{Ending}
+use Rattle.model.specs.Board.{boardWith}
 use Rattle.model.specs.Interpreter.{Run, begin, interpret}
 
 -- a run but for its clocks and its position
@@ -17,8 +18,8 @@ pub record Work : Type 0 where
 abbrev pub workOf : Run → Work
 workOf r = record { machine = r .machine; memory = r .memory; ran = r .ran; ending = r .ending }
 
--- under any two lists, from any two positions
+-- under any two lists, from any two positions, over one bottom
 abbrev pub WaitsOnlyWait : Type 0
 WaitsOnlyWait =
-    (waits waits′ : List ℕ) (start : Machine) (memory : List ℕ) (p p′ n : ℕ) →
-    workOf (interpret waits n (begin start memory p)) ≡ workOf (interpret waits′ n (begin start memory p′))
+    (bottom : ℕ) (waits waits′ : List ℕ) (start : Machine) (memory : List ℕ) (p p′ n : ℕ) →
+    workOf (interpret (boardWith bottom waits) n (begin start memory p)) ≡ workOf (interpret (boardWith bottom waits′) n (begin start memory p′))

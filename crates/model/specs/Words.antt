@@ -1,10 +1,10 @@
 -- Words of 32 bits as natural numbers: steps that go round at 2^32, bit fields, which words are instructions, a list as registers or
--- memory, and words laid over the front of a lent list. Document 01, "Machine and instruction word", with CR 5, and of "Image" and "File run
--- and journal" what does not change.
+-- memory, stores to it, and words laid over the front of a lent list. Document 01, "Machine and instruction word", with CR 5 and CR 6, and of
+-- "Image" and "File run and journal" what does not change.
 use Prim.Native.Nat.{ℕ, _+_, _-_, _/_, _%_, _^_}
-use mathlib.Core.Bool.{Bool, not, _&&_}
+use mathlib.Core.Bool.{Bool, not, cond, _&&_}
 use mathlib.Core.List.{List, _++_}
-use lib.Dec.{eqb, ltb}
+use lib.Dec.{eqb, ltb, leb}
 use lib.ListN.{length, getD, set, drop}
 
 -- register arithmetic goes round here
@@ -39,6 +39,13 @@ present memory address = ltb address (length memory)
 
 abbrev pub storeWord : List ℕ → ℕ → ℕ → List ℕ
 storeWord memory address word = set memory address word
+
+-- CR 6: whether a program's store can alter the word at an address, and the store; one below the bottom of memory alters nothing
+abbrev pub alterable : (bottom address : ℕ) → Bool
+alterable bottom address = leb bottom address
+
+abbrev pub storeAbove : (bottom : ℕ) → List ℕ → ℕ → ℕ → List ℕ
+storeAbove bottom memory address word = cond (alterable bottom address) (storeWord memory address word) memory
 
 -- words laid over the front of a list, whose other places stay
 abbrev pub overlay : List ℕ → List ℕ → List ℕ

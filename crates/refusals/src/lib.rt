@@ -1,4 +1,4 @@
-// Why a call is turned down, as code: document 01's numbers, what is demanded in turn, and the limits of a memory.
+// Why a call is turned down, as code: the papers' numbers, what is demanded in turn, and the limits of a memory.
 use model::Refusal;
 use model::Verdict;
 ghost use mathlib.Core.Path.{_≡_};
@@ -7,7 +7,7 @@ ghost use Rattle.model.specs.Refusals.{refusalNumber, demand, _then_, memoryFit
 // The most words of a memory.
 pub const MOST_WORDS: usize = 16_777_216;
 
-// Document 01's number of a refusal, 1 to 15.
+// The papers' number of a refusal.
 pub fn refusal_number(why: Refusal) -> u32
     ensures { λ r. ⌜ r ≡ refusalNumber why ⌝ }
 {
@@ -27,6 +27,7 @@ pub fn refusal_number(why: Refusal) -> u32
         Refusal::BadWordCount => 13,
         Refusal::ShortMemory => 14,
         Refusal::TrailingBytes => 15,
+        Refusal::BottomTooHigh => 21,
     }
 }
 

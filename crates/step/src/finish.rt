@@ -13,12 +13,13 @@ ghost use Rattle.step.specs.Steps.{Finishes};
 pub fn finish(
     regs: &mut [u32; 8],
     memory: &mut [u32],
+    bottom: u32,
     journal: &mut [u32],
     pairs: u32,
     flags: u32,
     f: Fetched,
 ) -> Stepped
-    ensures { λ r. ⌜ Finishes (now (regs .entry)) (now (memory .entry)) (now (journal .entry)) pairs flags f (now (regs .exit)) (now (memory .exit)) (now (journal .exit)) r ⌝ }
+    ensures { λ r. ⌜ Finishes (now (regs .entry)) (now (memory .entry)) bottom (now (journal .entry)) pairs flags f (now (regs .exit)) (now (memory .exit)) (now (journal .exit)) r ⌝ }
 {
     let word = f.word;
     let oa = f.oa;
@@ -26,7 +27,7 @@ pub fn finish(
     let stored = stores(word, flags);
     let out = unit_of(word, flags, f.a, f.b);
     let after = flags_after_packed(word, flags, out);
-    let noted = put(stored, f, out.result, pairs, regs, memory, journal);
+    let noted = put(stored, f, out.result, pairs, regs, memory, bottom, journal);
     step_up(oa, regs);
     step_up(ob, regs);
     Stepped {

@@ -49,20 +49,21 @@ fn stopped(ending: Ending, flags: u32, pairs: u32) -> Stepped
     }
 }
 
-// A store to memory is noted as a pair of address and former word, where the journal has room for it.
+// A store to memory that can alter it is noted as a pair of address and former word, where the journal has room for it.
 pub fn step(
     regs: &mut [u32; 8],
     memory: &mut [u32],
+    bottom: u32,
     journal: &mut [u32],
     pairs: u32,
     flags: u32,
 ) -> Stepped
-    ensures { λ r. ⌜ Steps (now (regs .entry)) (now (memory .entry)) (now (journal .entry)) pairs flags (now (regs .exit)) (now (memory .exit)) (now (journal .exit)) r ⌝ }
+    ensures { λ r. ⌜ Steps (now (regs .entry)) (now (memory .entry)) bottom (now (journal .entry)) pairs flags (now (regs .exit)) (now (memory .exit)) (now (journal .exit)) r ⌝ }
 {
     let f = fetch(regs, &*memory);
     let ending = f.ending;
     if goes_on(ending) {
-        return finish(regs, memory, journal, pairs, flags, f);
+        return finish(regs, memory, bottom, journal, pairs, flags, f);
     }
     stopped(ending, flags, pairs)
 }

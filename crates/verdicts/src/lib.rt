@@ -1,4 +1,4 @@
-// The first reason to turn down a run, a file run and a gate run, in the order of document 01's numbers.
+// The first reason to turn down a run, a file run and a gate run, in the papers' order.
 mod gate_state;
 
 use gate_state::access_formed;
@@ -11,12 +11,20 @@ use refusals::then;
 use step_table::LAST_ROW;
 use wait_list::position_fits;
 ghost use mathlib.Core.Path.{_≡_};
-ghost use Rattle.model.specs.Refusals.{waitsFit, stateFits, journalFits, runVerdict, fileVerdict, gateVerdict};
+ghost use Rattle.model.specs.Board.{boardWith};
+ghost use Rattle.model.specs.Refusals.{bottomFits, waitsFit, stateFits, journalFits, runVerdict, fileVerdict, gateVerdict};
 
 // The most entries of a wait list, and instructions of a file run.
 const MOST_WAITS: usize = 65_536;
 
 const MOST_INSTRUCTIONS: u32 = 65_536;
+
+// Reason 21.
+fn bottom_fits(memory: &[u32], bottom: u32) -> Verdict
+    ensures { λ r. ⌜ r ≡ bottomFits (now (memory .entry)) bottom ⌝ }
+{
+    demand(bottom as usize <= memory.len(), Refusal::BottomTooHigh)
+}
 
 // Reason 3.
 fn waits_fit(waits: &[u16]) -> Verdict
@@ -46,24 +54,33 @@ fn journal_fits(journal: &[u32], count: u32) -> Verdict
     )
 }
 
-pub fn run_verdict(memory: &[u32], waits: &[u16]) -> Verdict
-    ensures { λ r. ⌜ r ≡ runVerdict (now (memory .entry)) (now (waits .entry)) ⌝ }
+pub fn run_verdict(memory: &[u32], bottom: u32, waits: &[u16]) -> Verdict
+    ensures { λ r. ⌜ r ≡ runVerdict (now (memory .entry)) (boardWith bottom (now (waits .entry))) ⌝ }
 {
-    then(memory_fits(memory), waits_fit(waits))
-}
-
-pub fn file_verdict(memory: &[u32], journal: &[u32], count: u32) -> Verdict
-    ensures { λ r. ⌜ r ≡ fileVerdict (now (memory .entry)) (now (journal .entry)) count ⌝ }
-{
-    then(memory_fits(memory), journal_fits(journal, count))
-}
-
-pub fn gate_verdict(memory: &[u32], waits: &[u16], s: GateState) -> Verdict
-    ensures { λ r. ⌜ r ≡ gateVerdict (now (memory .entry)) (now (waits .entry)) s ⌝ }
-{
-    // 1 and 2; 3; 4.
+    // 1 and 2; 21; 3.
     let words = memory_fits(memory);
+    let base = bottom_fits(memory, bottom);
+    let list = waits_fit(waits);
+    then(words, then(base, list))
+}
+
+pub fn file_verdict(memory: &[u32], bottom: u32, journal: &[u32], count: u32) -> Verdict
+    ensures { λ r. ⌜ r ≡ fileVerdict (now (memory .entry)) bottom (now (journal .entry)) count ⌝ }
+{
+    // 1 and 2; 21; 5 and 6.
+    let words = memory_fits(memory);
+    let base = bottom_fits(memory, bottom);
+    let room = journal_fits(journal, count);
+    then(words, then(base, room))
+}
+
+pub fn gate_verdict(memory: &[u32], bottom: u32, waits: &[u16], s: GateState) -> Verdict
+    ensures { λ r. ⌜ r ≡ gateVerdict (now (memory .entry)) (boardWith bottom (now (waits .entry))) s ⌝ }
+{
+    // 1 and 2; 21; 3; 4.
+    let words = memory_fits(memory);
+    let base = bottom_fits(memory, bottom);
     let list = waits_fit(waits);
     let state = state_fits(waits, s);
-    then(words, then(list, state))
+    then(words, then(base, then(list, state)))
 }

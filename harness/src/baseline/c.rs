@@ -8,6 +8,7 @@ mod raw {
         pub fn baseline_run(
             memory: *mut u32,
             memory_words: usize,
+            bottom: u32,
             waits: *const u16,
             waits_entries: usize,
             machine: *mut u32,
@@ -17,6 +18,7 @@ mod raw {
         pub fn baseline_file_run(
             memory: *mut u32,
             memory_words: usize,
+            bottom: u32,
             journal: *mut u32,
             machine: *mut u32,
             count: u32,
@@ -25,6 +27,7 @@ mod raw {
         pub fn baseline_gate_run(
             memory: *mut u32,
             memory_words: usize,
+            bottom: u32,
             waits: *const u16,
             waits_entries: usize,
             state: *mut u32,
@@ -64,6 +67,7 @@ mod raw {
 
 pub fn run(
     memory: &mut [u32],
+    bottom: u32,
     waits: &[u16],
     machine: &mut [u32],
     count: u32,
@@ -73,6 +77,7 @@ pub fn run(
         raw::baseline_run(
             memory.as_mut_ptr(),
             memory.len(),
+            bottom,
             waits.as_ptr(),
             waits.len(),
             machine.as_mut_ptr(),
@@ -84,6 +89,7 @@ pub fn run(
 
 pub fn file_run(
     memory: &mut [u32],
+    bottom: u32,
     journal: &mut [u32],
     machine: &mut [u32],
     count: u32,
@@ -93,6 +99,7 @@ pub fn file_run(
         raw::baseline_file_run(
             memory.as_mut_ptr(),
             memory.len(),
+            bottom,
             journal.as_mut_ptr(),
             machine.as_mut_ptr(),
             count,
@@ -103,6 +110,7 @@ pub fn file_run(
 
 pub fn gate_run(
     memory: &mut [u32],
+    bottom: u32,
     waits: &[u16],
     state: &mut [u32],
     clocks: u64,
@@ -112,6 +120,7 @@ pub fn gate_run(
         raw::baseline_gate_run(
             memory.as_mut_ptr(),
             memory.len(),
+            bottom,
             waits.as_ptr(),
             waits.len(),
             state.as_mut_ptr(),

@@ -32,6 +32,7 @@ const IS_ACCESS: [bool; 13] = [
 #[inline(never)]
 pub fn gate_run(
     memory: &mut [u32],
+    bottom: u32,
     waits: &[u16],
     words: &mut [u32],
     clocks: u64,
@@ -40,7 +41,7 @@ pub fn gate_run(
     let mut state = State::of(words);
     let mut finished = 0;
     for _ in 0..clocks {
-        finished += u64::from(state.clock(memory, waits));
+        finished += u64::from(state.clock(memory, bottom, waits));
     }
     state.give(words);
     result[0] = finished;
@@ -88,7 +89,7 @@ impl State {
 
     /// Returns whether an instruction finished.
     #[inline(always)]
-    fn clock(&mut self, memory: &mut [u32], waits: &[u16]) -> bool {
+    fn clock(&mut self, memory: &mut [u32], bottom: u32, waits: &[u16]) -> bool {
         let row = self.row as usize;
         let mut next = NEXT[row];
         if IS_ACCESS[row] && !self.access(memory.len(), waits) {
@@ -111,7 +112,7 @@ impl State {
             6 => self.b = memory[self.address as usize],
             7 => next = self.compute(b),
             8 => self.registers[b.register] = self.result,
-            9 => memory[self.address as usize] = self.result,
+            9 if self.address >= bottom => memory[self.address as usize] = self.result,
             10 => a.step_up(&mut self.registers),
             11 => b.step_up(&mut self.registers),
             _ => {}

@@ -13,6 +13,8 @@ struct Engine<'a, const WAITS: bool, const JOURNAL: bool> {
     negative: bool,
     zero: bool,
     memory: &'a mut [u32],
+    /// No store alters a word below it.
+    bottom: usize,
     waits: &'a [u16],
     position: usize,
     journal: &'a mut [u32],
@@ -29,15 +31,16 @@ struct Ran {
 
 pub fn run(
     memory: &mut [u32],
+    bottom: u32,
     waits: &[u16],
     machine: &mut [u32],
     count: u32,
     result: &mut [u64],
 ) -> u32 {
     let ran = if waits.is_empty() {
-        plain_run::<false>(memory, waits, machine, count)
+        plain_run::<false>(memory, bottom, waits, machine, count)
     } else {
-        plain_run::<true>(memory, waits, machine, count)
+        plain_run::<true>(memory, bottom, waits, machine, count)
     };
     result.copy_from_slice(&[u64::from(ran.count), ran.clocks]);
     ran.code
@@ -46,12 +49,13 @@ pub fn run(
 #[inline(never)]
 fn plain_run<const WAITS: bool>(
     memory: &mut [u32],
+    bottom: u32,
     waits: &[u16],
     machine: &mut [u32],
     count: u32,
 ) -> Ran {
     let mut registers = registers_of(machine);
-    let mut engine = Engine::<WAITS, false>::new(machine, memory, waits, &mut []);
+    let mut engine = Engine::<WAITS, false>::new(machine, memory, bottom, waits, &mut []);
     let ran = engine.run(&mut registers, count);
     engine.give(&registers, machine);
     ran
@@ -60,13 +64,14 @@ fn plain_run<const WAITS: bool>(
 #[inline(never)]
 pub fn file_run(
     memory: &mut [u32],
+    bottom: u32,
     journal: &mut [u32],
     machine: &mut [u32],
     count: u32,
     result: &mut [u64],
 ) -> u32 {
     let mut registers = registers_of(machine);
-    let mut engine = Engine::<false, true>::new(machine, memory, &[], journal);
+    let mut engine = Engine::<false, true>::new(machine, memory, bottom, &[], journal);
     let ran = engine.run(&mut registers, count);
     let filled = engine.filled;
     result.copy_from_slice(&[u64::from(ran.count), filled as u64 / 2]);
@@ -91,6 +96,7 @@ impl<'a, const WAITS: bool, const JOURNAL: bool> Engine<'a, WAITS, JOURNAL> {
     fn new(
         machine: &[u32],
         memory: &'a mut [u32],
+        bottom: u32,
         waits: &'a [u16],
         journal: &'a mut [u32],
     ) -> Self {
@@ -100,6 +106,7 @@ impl<'a, const WAITS: bool, const JOURNAL: bool> Engine<'a, WAITS, JOURNAL> {
             negative: machine[10] != 0,
             zero: machine[11] != 0,
             memory,
+            bottom: bottom as usize,
             waits,
             position: 0,
             journal,
@@ -251,12 +258,19 @@ impl<'a, const WAITS: bool, const JOURNAL: bool> Engine<'a, WAITS, JOURNAL> {
     /// Returns the wait.
     #[inline(always)]
     fn store(&mut self, address: usize, former: u32, word: u32) -> u64 {
+        if address >= self.bottom {
+            self.alter(address, former, word);
+        }
+        self.wait()
+    }
+
+    #[inline(always)]
+    fn alter(&mut self, address: usize, former: u32, word: u32) {
         if JOURNAL {
             self.journal[self.filled] = address as u32;
             self.journal[self.filled + 1] = former;
             self.filled += 2;
         }
         self.memory[address] = word;
-        self.wait()
     }
 }

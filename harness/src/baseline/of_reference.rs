@@ -7,12 +7,13 @@ use reference::image;
 
 pub fn run(
     memory: &mut [u32],
+    bottom: u32,
     waits: &[u16],
     words: &mut [u32],
     count: u32,
     result: &mut [u64],
 ) -> u32 {
-    let ran = reference::run(memory, waits, machine_of(words), count);
+    let ran = reference::run(memory, bottom, waits, machine_of(words), count);
     words.copy_from_slice(&machine_words(&ran.machine));
     result.copy_from_slice(&[u64::from(ran.ran), ran.clocks]);
     codes::of_run(ran.answer)
@@ -20,12 +21,13 @@ pub fn run(
 
 pub fn file_run(
     memory: &mut [u32],
+    bottom: u32,
     journal: &mut [u32],
     words: &mut [u32],
     count: u32,
     result: &mut [u64],
 ) -> u32 {
-    let ran = reference::file_run(memory, journal, machine_of(words), count);
+    let ran = reference::file_run(memory, bottom, journal, machine_of(words), count);
     words.copy_from_slice(&machine_words(&ran.machine));
     result.copy_from_slice(&[u64::from(ran.ran), u64::from(ran.pairs)]);
     codes::of_file_run(ran.answer)
@@ -33,12 +35,13 @@ pub fn file_run(
 
 pub fn gate_run(
     memory: &mut [u32],
+    bottom: u32,
     waits: &[u16],
     words: &mut [u32],
     clocks: u64,
     result: &mut [u64],
 ) -> u32 {
-    let ran = reference::gate_run(memory, waits, state_of(words), clocks);
+    let ran = reference::gate_run(memory, bottom, waits, state_of(words), clocks);
     words.copy_from_slice(&state_words(&ran.state));
     result[0] = ran.finished;
     codes::of_call(ran.answer)

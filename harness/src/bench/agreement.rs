@@ -1,7 +1,8 @@
 //! Whether all contenders do the same, before anything is measured.
 
 use super::workload::{
-    generated, moves_loop, register_loop, stacking_loop, stacking_outside, Workload,
+    generated, moves_loop, register_loop, stacking_above_bottom, stacking_loop, stacking_outside,
+    Workload,
 };
 use crate::baseline::{Contender, CONTENDERS};
 use crate::words::{machine_words, state_words};
@@ -29,6 +30,7 @@ fn check_starts(starts: u64) {
             name: format!("start {seed}"),
             machine: machine_words(&program.start),
             memory: program.memory.clone(),
+            bottom: program.bottom,
             waits: program.waits.clone(),
         };
         check_runs(&workload, program.count);
@@ -42,6 +44,7 @@ fn check_measured() {
     let plain = [
         register_loop(),
         stacking_loop(),
+        stacking_above_bottom(),
         stacking_outside(),
         generated(),
         moves_loop(),
@@ -70,16 +73,16 @@ fn check_runs(start: &Workload, count: u32) {
     all_same(&format!("run, {}", start.name), |contender| {
         let (mut memory, mut machine) = (start.memory.clone(), start.machine);
         let mut result = [0; 2];
-        let waits = &start.waits;
-        let code = (contender.run)(&mut memory, waits, &mut machine, count, &mut result);
+        let lent = (&mut memory, start.bottom, &start.waits, &mut machine);
+        let code = (contender.run)(lent.0, lent.1, lent.2, lent.3, count, &mut result);
         (code, memory, machine, result)
     });
     all_same(&format!("file run, {}", start.name), |contender| {
         let (mut memory, mut machine) = (start.memory.clone(), start.machine);
         let mut journal = vec![7; 2 * count as usize];
         let mut result = [0; 2];
-        let lent = (&mut memory, &mut journal, &mut machine);
-        let code = (contender.file_run)(lent.0, lent.1, lent.2, count, &mut result);
+        let lent = (&mut memory, start.bottom, &mut journal, &mut machine);
+        let code = (contender.file_run)(lent.0, lent.1, lent.2, lent.3, count, &mut result);
         (code, memory, journal, machine, result)
     });
 }
@@ -88,8 +91,8 @@ fn check_gates(start: &Workload, state: [u32; STATE_SIZE], clocks: u64) {
     all_same(&format!("gate run, {}", start.name), |contender| {
         let (mut memory, mut state) = (start.memory.clone(), state);
         let mut result = [0; 1];
-        let waits = &start.waits;
-        let code = (contender.gate_run)(&mut memory, waits, &mut state, clocks, &mut result);
+        let lent = (&mut memory, start.bottom, &start.waits, &mut state);
+        let code = (contender.gate_run)(lent.0, lent.1, lent.2, lent.3, clocks, &mut result);
         (code, memory, state, result)
     });
 }

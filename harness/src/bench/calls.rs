@@ -52,7 +52,7 @@ fn run_words(calls: u64) -> f64 {
     let mut result = [0; 2];
     time(calls, || {
         for _ in 0..calls {
-            library::run(&mut memory, &[], &mut machine, 0, &mut result);
+            library::run(&mut memory, 0, &[], &mut machine, 0, &mut result);
         }
     })
 }
@@ -62,7 +62,7 @@ fn run_safe(calls: u64, count: u32) -> f64 {
     let mut machine = start(&workload);
     time(calls, || {
         for _ in 0..calls {
-            fm8502::run(&mut workload.memory, &[], &mut machine, count).expect("accepted");
+            fm8502::run(&mut workload.memory, 0, &[], &mut machine, count).expect("accepted");
         }
     })
 }
@@ -72,7 +72,7 @@ fn gate_safe(calls: u64, clocks: u64) -> f64 {
     let mut state = GateState::start(start(&workload));
     time(calls, || {
         for _ in 0..calls {
-            fm8502::gate_run(&mut workload.memory, &[], &mut state, clocks).expect("accepted");
+            fm8502::gate_run(&mut workload.memory, 0, &[], &mut state, clocks).expect("accepted");
         }
     })
 }
@@ -83,7 +83,7 @@ fn clock_words(calls: u64) -> f64 {
     let mut result = [0; 1];
     time(calls, || {
         for _ in 0..calls {
-            library::clock(&mut workload.memory, &[], &mut state, &mut result);
+            library::clock(&mut workload.memory, 0, &[], &mut state, &mut result);
         }
     })
 }
@@ -93,7 +93,7 @@ fn clock_safe(calls: u64) -> f64 {
     let mut state = GateState::start(start(&workload));
     time(calls, || {
         for _ in 0..calls {
-            fm8502::clock(&mut workload.memory, &[], &mut state).expect("accepted");
+            fm8502::clock(&mut workload.memory, 0, &[], &mut state).expect("accepted");
         }
     })
 }

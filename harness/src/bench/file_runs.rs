@@ -2,7 +2,9 @@
 
 use super::measure::{best, time, Task};
 use super::table::Table;
-use super::workload::{generated, register_loop, stacking_loop, stacking_outside, Workload};
+use super::workload::{
+    generated, register_loop, stacking_above_bottom, stacking_loop, stacking_outside, Workload,
+};
 use super::Sizes;
 use crate::baseline::{Contender, CONTENDERS};
 use std::cell::RefCell;
@@ -20,6 +22,7 @@ pub fn file_runs(sizes: Sizes) -> (Table, Table) {
         ("finished", stacking_loop()),
         ("finished", generated()),
         ("undone", stacking_outside()),
+        ("finished", stacking_above_bottom()),
     ];
     let rows = rows.map(|(ending, workload)| measure(sizes, ending, &workload));
     let (files, plain): (Vec<Row>, Vec<Row>) = rows.into_iter().unzip();
@@ -53,7 +56,14 @@ fn file_run(contender: &Contender, workload: &Workload, journal: &mut [u32]) -> 
     let (mut memory, mut machine) = (workload.memory.clone(), workload.machine);
     let mut result = [0; 2];
     let all = time(1, || {
-        (contender.file_run)(&mut memory, journal, &mut machine, COUNT, &mut result)
+        (contender.file_run)(
+            &mut memory,
+            workload.bottom,
+            journal,
+            &mut machine,
+            COUNT,
+            &mut result,
+        )
     });
     all / result[0] as f64
 }
@@ -63,7 +73,14 @@ fn plain_run(contender: &Contender, workload: &Workload) -> f64 {
     let (mut memory, mut machine) = (workload.memory.clone(), workload.machine);
     let mut result = [0; 2];
     let all = time(1, || {
-        (contender.run)(&mut memory, &[], &mut machine, COUNT, &mut result)
+        (contender.run)(
+            &mut memory,
+            workload.bottom,
+            &[],
+            &mut machine,
+            COUNT,
+            &mut result,
+        )
     });
     all / result[0] as f64
 }

@@ -2,20 +2,22 @@
 
 use super::measure::{best, time, Task};
 use super::table::Table;
-use super::workload::{generated, moves_loop, register_loop, stacking_loop, Workload};
+use super::workload::{
+    generated, moves_loop, register_loop, stacking_above_bottom, stacking_loop, Workload,
+};
 use super::Sizes;
 use crate::baseline::{Contender, CONTENDERS};
 
 pub fn interpreter(sizes: Sizes) -> Table {
     let mut rows = Vec::new();
-    for workload in [register_loop(), stacking_loop(), generated()] {
-        for workload in workload.with_lists() {
-            let mut tasks = CONTENDERS.each_ref().map(|contender| -> Task {
-                let workload = workload.clone();
-                Box::new(move || run(contender, &workload, sizes.instructions))
-            });
-            rows.push((workload.name.clone(), best(sizes.rounds, &mut tasks)));
-        }
+    let plain = [register_loop(), stacking_loop(), generated()];
+    let listed = plain.into_iter().flat_map(Workload::with_lists);
+    for workload in listed.chain([stacking_above_bottom()]) {
+        let mut tasks = CONTENDERS.each_ref().map(|contender| -> Task {
+            let workload = workload.clone();
+            Box::new(move || run(contender, &workload, sizes.instructions))
+        });
+        rows.push((workload.name.clone(), best(sizes.rounds, &mut tasks)));
     }
     Table {
         title: "Interpreter".into(),
@@ -30,6 +32,7 @@ fn run(contender: &Contender, workload: &Workload, count: u32) -> f64 {
     time(u64::from(count), || {
         (contender.run)(
             &mut memory,
+            workload.bottom,
             &workload.waits,
             &mut machine,
             count,
@@ -41,7 +44,8 @@ fn run(contender: &Contender, workload: &Workload, count: u32) -> f64 {
 pub fn gate_machine(sizes: Sizes) -> Table {
     let mut rows = Vec::new();
     let [stacking, long, short] = stacking_loop().with_lists();
-    for workload in [register_loop(), stacking, moves_loop(), long, short] {
+    let bottom = stacking_above_bottom();
+    for workload in [register_loop(), stacking, moves_loop(), long, short, bottom] {
         let mut tasks = CONTENDERS.each_ref().map(|contender| -> Task {
             let workload = workload.clone();
             Box::new(move || gate_run(contender, &workload, sizes.clocks))
@@ -61,6 +65,7 @@ fn gate_run(contender: &Contender, workload: &Workload, clocks: u64) -> f64 {
     time(clocks, || {
         (contender.gate_run)(
             &mut memory,
+            workload.bottom,
             &workload.waits,
             &mut state,
             clocks,

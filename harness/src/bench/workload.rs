@@ -32,6 +32,7 @@ pub struct Workload {
     pub name: String,
     pub machine: [u32; MACHINE_SIZE],
     pub memory: Vec<u32>,
+    pub bottom: u32,
     pub waits: Vec<u16>,
 }
 
@@ -43,6 +44,7 @@ impl Workload {
             name: name.into(),
             machine,
             memory,
+            bottom: 0,
             waits: Vec::new(),
         }
     }
@@ -86,10 +88,22 @@ pub fn register_loop() -> Workload {
     Workload::new("register loop", registers, memory)
 }
 
+/// Of the stacking loop: its samples, and the address of the first one; the
+/// accumulators follow them.
+const SAMPLES: u32 = 4_096;
+const FIRST: u32 = 1_024;
+
+/// The stacking loop with all words below its accumulators fixed: the same work.
+pub fn stacking_above_bottom() -> Workload {
+    Workload {
+        name: "stacking loop, bottom".into(),
+        bottom: FIRST + SAMPLES,
+        ..stacking_loop()
+    }
+}
+
 /// Adds 4,096 samples at r1 to the accumulators at r2, and then begins again.
 pub fn stacking_loop() -> Workload {
-    const SAMPLES: u32 = 4_096;
-    const FIRST: u32 = 1_024;
     let mut rng = Rng::new(77);
     let mut memory = vec![0; 16_384];
     for word in &mut memory[FIRST as usize..][..2 * SAMPLES as usize] {

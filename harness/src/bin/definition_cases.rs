@@ -3,6 +3,7 @@
 //! compute the definitions on.
 
 use harness::case_words::{ending_number, flag_number, latch_words};
+use reference::generate::bottom::refused_bottom;
 use reference::generate::halting::BIT_NUMBERS;
 use reference::generate::program::{any_program, Program};
 use reference::generate::state::{gate_state, refused_gate_state};
@@ -17,8 +18,8 @@ const VERDICTS: usize = 100;
 
 /// What stands before the cases.
 const HEAD: &str = "-- Cases of both engines, of document 01, \"Machine and instruction word\", \"Clocks\", \"File run and journal\" and \"Why a call is turned
--- down\", and of document 02, CR 3 and CR 5, made by harness/definition_cases from a seed with the reference emulator's results: do not
--- edit.
+-- down\", and of document 02, CR 3, CR 5 and CR 6, made by harness/definition_cases from a seed with the reference emulator's results:
+-- do not edit.
 use mathlib.Core.List.{List, [], _∷_}
 use Rattle.definition_cases.specs.Shape.{RunCase, GateCase, VerdictCase, runCase, gateCase, verdictCase}
 ";
@@ -28,13 +29,17 @@ fn main() {
     let mut out = String::from(HEAD);
     let mut runs: Vec<String> = (0..RUNS).map(|_| run_case(&small(&mut rng))).collect();
     runs.extend(halting_programs().iter().map(run_case));
+    runs.extend(bottom_programs().iter().map(run_case));
     list(&mut out, "runCases", "RunCase", &runs);
     let mut gates: Vec<String> = (0..GATE_RUNS).map(|i| any_gate_case(&mut rng, i)).collect();
     gates.extend(halting_programs().iter().flat_map(around_halt));
+    gates.extend(bottom_programs().iter().flat_map(around_store));
+    gates.extend(lent_stores());
     list(&mut out, "gateCases", "GateCase", &gates);
     let mut verdicts: Vec<String> = (0..VERDICTS).map(|i| state_verdict(&mut rng, i)).collect();
     verdicts.extend(position_verdicts());
     verdicts.extend(row_verdicts());
+    verdicts.extend(bottom_verdicts());
     list(&mut out, "verdictCases", "VerdictCase", &verdicts);
     print!("{out}");
 }
@@ -71,6 +76,7 @@ fn halting_programs() -> Vec<Program> {
         Program {
             // move r1,(r2), and inc r1,r1 with the bit.
             memory: vec![0x0000_0141, 0x0001_0021 | 1 << bit, 7],
+            bottom: 0,
             // The store has three accesses.
             waits: vec![1, 0, 3, HALT_WAIT],
             start,
@@ -80,17 +86,49 @@ fn halting_programs() -> Vec<Program> {
     BIT_NUMBERS.map(program).to_vec()
 }
 
+/// The word that the bottom programs store to first, and the length of their memories.
+const STORED: u32 = 3;
+const LENGTH: u32 = 5;
+
+/// For each bottom around the store an addition to that word, with B in each of the three
+/// modes that have an address, and one to the next word; then the run is outside.
+fn bottom_programs() -> Vec<Program> {
+    let program = |word, r2, bottom| {
+        let mut start = Machine::default();
+        start.registers[1..4].copy_from_slice(&[u32::MAX, r2, STORED + 1]);
+        Program {
+            // The word, add r1,(r3) and add r1,(r1), all with all flags.
+            memory: vec![word, 0x0003_3D61, 0x0003_3D21, 1, 0],
+            bottom,
+            waits: vec![1, 0, STORE_WAIT, 0, 3],
+            start,
+            count: 3,
+        }
+    };
+    // add r1,(r2), add r1,-(r2) and add r1,(r2)+, with r2 so that all store to one word.
+    let modes = [
+        (0x0003_3D41, STORED),
+        (0x0003_3E41, STORED + 1),
+        (0x0003_3F41, STORED),
+    ];
+    let bottoms = [0, STORED, STORED + 1, LENGTH];
+    let programs = modes.map(|(word, r2)| bottoms.map(|bottom| program(word, r2, bottom)));
+    programs.concat()
+}
+
 fn run_case(p: &Program) -> String {
     let mut memory = p.memory.clone();
-    let r = run(&mut memory, &p.waits, p.start, p.count);
+    let r = run(&mut memory, p.bottom, &p.waits, p.start, p.count);
     let mut journal = vec![0; 2 * p.count as usize];
-    let f = file_run(&mut p.memory.clone(), &mut journal, p.start, p.count);
+    let file_memory = &mut p.memory.clone();
+    let f = file_run(file_memory, p.bottom, &mut journal, p.start, p.count);
     journal.truncate(2 * f.pairs as usize);
     format!(
-        "runCase {} {} {} {} {} {} {} {} {} {} {} {}",
+        "runCase {} {} {} {} {} {} {} {} {} {} {} {} {}",
         words(&p.memory),
         words(&p.start.registers),
         flag_number(p.start.flags),
+        p.bottom,
         numbers(&p.waits),
         p.count,
         words(&memory),
@@ -111,7 +149,7 @@ fn any_gate_case(rng: &mut Rng, number: usize) -> String {
     let mut clocks = rng.between(0, 40) as u64;
     if number % 2 == 0 {
         state = GateState::start(p.start);
-        let total = run(&mut p.memory.clone(), &p.waits, p.start, p.count.min(4)).clocks;
+        let total = clock_total(&p, p.count.min(4));
         clocks = (total + number as u64 / 2 % 3).saturating_sub(1);
     }
     gate_case(&p, &state, clocks)
@@ -119,19 +157,54 @@ fn any_gate_case(rng: &mut Rng, number: usize) -> String {
 
 /// Just before the halting word's read is complete, at that clock, and some later.
 fn around_halt(p: &Program) -> Vec<String> {
-    let total = run(&mut p.memory.clone(), &p.waits, p.start, p.count).clocks;
-    let halt = total + 2 + u64::from(HALT_WAIT);
+    let halt = clock_total(p, p.count) + 2 + u64::from(HALT_WAIT);
     let state = GateState::start(p.start);
     let case = |clocks| gate_case(p, &state, clocks);
     [halt - 1, halt, halt + 9].map(case).to_vec()
 }
 
+/// The wait of the first store of a bottom program.
+const STORE_WAIT: u16 = 2;
+
+/// Just before the first store is complete, at that clock, and after both.
+fn around_store(p: &Program) -> Vec<String> {
+    // Rows 0 to 3, 5 to 7 and 9, with the waits up to the store's.
+    let store = 8 + 1 + u64::from(STORE_WAIT);
+    let state = GateState::start(p.start);
+    let ends = [store - 1, store, clock_total(p, p.count)];
+    ends.map(|clocks| gate_case(p, &state, clocks)).to_vec()
+}
+
+/// States lent in row 9, below the bottom, at it and past the memory.
+fn lent_stores() -> Vec<String> {
+    let p = Program {
+        bottom: STORED,
+        ..bottom_programs()[0].clone()
+    };
+    let case = |address| {
+        let state = GateState {
+            row: 9,
+            address,
+            result: 99,
+            ..GateState::start(p.start)
+        };
+        gate_case(&p, &state, 2)
+    };
+    [STORED - 1, STORED, LENGTH].map(case).to_vec()
+}
+
+/// Of so many instructions.
+fn clock_total(p: &Program, count: u32) -> u64 {
+    run(&mut p.memory.clone(), p.bottom, &p.waits, p.start, count).clocks
+}
+
 fn gate_case(p: &Program, state: &GateState, clocks: u64) -> String {
     let mut memory = p.memory.clone();
-    let g = gate_run(&mut memory, &p.waits, *state, clocks);
+    let g = gate_run(&mut memory, p.bottom, &p.waits, *state, clocks);
     format!(
-        "gateCase {} {} {} {} {} {} {} {} {}",
+        "gateCase {} {} {} {} {} {} {} {} {} {}",
         words(&p.memory),
+        p.bottom,
         numbers(&p.waits),
         words(&state.registers),
         latches(state),
@@ -143,8 +216,8 @@ fn gate_case(p: &Program, state: &GateState, clocks: u64) -> String {
     )
 }
 
-/// Whether a gate run takes a state in any row; every other is refused, and every
-/// tenth for its memory.
+/// Whether a gate run takes a state in any row; every other is refused, every tenth for
+/// its memory and every tenth for its bottom.
 fn state_verdict(rng: &mut Rng, number: usize) -> String {
     let mut p = small(rng);
     let (words, entries) = (p.memory.len(), p.waits.len());
@@ -156,7 +229,10 @@ fn state_verdict(rng: &mut Rng, number: usize) -> String {
     if number % 10 == 9 {
         p.memory.clear();
     }
-    verdict_case(&p.memory, &p.waits, &state)
+    if number % 10 == 4 {
+        p.bottom = refused_bottom(rng, words);
+    }
+    verdict_case(&p.memory, p.bottom, &p.waits, &state)
 }
 
 /// List positions before, at and past the end of short lists and of none.
@@ -168,7 +244,7 @@ fn position_verdicts() -> Vec<String> {
                 position,
                 ..GateState::default()
             };
-            cases.push(verdict_case(&[0], &vec![1; entries as usize], &state));
+            cases.push(verdict_case(&[0], 0, &vec![1; entries as usize], &state));
         }
     }
     cases
@@ -185,18 +261,39 @@ fn row_verdicts() -> Vec<String> {
                 left,
                 ..GateState::default()
             };
-            cases.push(verdict_case(&[0], &[], &state));
+            cases.push(verdict_case(&[0], 0, &[], &state));
+        }
+    }
+    cases
+}
+
+/// No bottom, one word, all words and one more, also of an empty memory, for a good state
+/// and a bad one: 1 comes first, then 21, then 4.
+fn bottom_verdicts() -> Vec<String> {
+    let states = [0, 13].map(|row| GateState {
+        row,
+        ..GateState::default()
+    });
+    let mut cases = Vec::new();
+    for memory in [&[][..], &[7, 8, 9]] {
+        let length = memory.len() as u32;
+        let mut bottoms = vec![0, 1, length, length + 1, u32::MAX];
+        bottoms.sort();
+        bottoms.dedup();
+        for bottom in bottoms {
+            cases.extend(states.map(|state| verdict_case(memory, bottom, &[], &state)));
         }
     }
     cases
 }
 
 /// The refusal's number, 0 for none.
-fn verdict_case(memory: &[u32], waits: &[u16], state: &GateState) -> String {
-    let answer = gate_run(&mut memory.to_vec(), waits, *state, 0).answer;
+fn verdict_case(memory: &[u32], bottom: u32, waits: &[u16], state: &GateState) -> String {
+    let answer = gate_run(&mut memory.to_vec(), bottom, waits, *state, 0).answer;
     format!(
-        "verdictCase {} {} {} {}",
+        "verdictCase {} {} {} {} {}",
         words(memory),
+        bottom,
         numbers(waits),
         latches(state),
         answer.map_or_else(|refusal| refusal.number(), |()| 0),

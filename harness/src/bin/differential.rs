@@ -2,8 +2,8 @@
 
 use harness::arguments::{numbers, value};
 use harness::differential::{
-    directed, gates, halting, images, limits, long, misfits, programs, refusals, sums, vectors,
-    Check,
+    bottom, directed, gates, halting, images, limits, long, misfits, programs, refusals, sums,
+    vectors, Check,
 };
 use reference::rng::Rng;
 use std::process::exit;
@@ -36,6 +36,7 @@ fn main() {
     check_images(seed, images);
     check_directed(seed);
     check_halting(seed);
+    check_bottom(seed);
     let vectors = settle(vectors::check(), "outside vectors");
     println!("{vectors} outside vectors agree");
     let sums = settle(
@@ -120,6 +121,15 @@ fn check_halting(seed: u64) {
         &format!("words that are no instruction, --seed {seed}"),
     );
     println!("{words} words that are no instruction agree, seed {seed}: {tally}");
+}
+
+fn check_bottom(seed: u64) {
+    let mut tally = programs::Tally::default();
+    let cases = settle(
+        bottom::check(&mut Rng::new(seed), &mut tally),
+        &format!("directed cases of the bottom, --seed {seed}"),
+    );
+    println!("{cases} directed cases of the bottom agree, seed {seed}: {tally}");
 }
 
 fn check_refusals(seed: u64) {

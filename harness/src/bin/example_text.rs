@@ -1,7 +1,7 @@
 //! Prints what the examples of the bindings must print: `example_text FOLDER`,
 //! the folder of the example images.
 
-use harness::example::text;
+use harness::example::{text, Images};
 use std::fs;
 use std::path::PathBuf;
 
@@ -12,8 +12,12 @@ fn main() -> std::io::Result<()> {
         .map(|entry| entry.parse().expect("a number of 16 bits"))
         .collect();
     let image = |name| fs::read(folder.join(name));
-    let [stacking, outside, halted] =
-        ["stacking.image", "outside.image", "halted.image"].map(image);
-    print!("{}", text(&stacking?, &waits, &outside?, &halted?));
+    let images = Images {
+        stacking: image("stacking.image")?,
+        outside: image("outside.image")?,
+        halted: image("halted.image")?,
+        loader: image("loader.image")?,
+    };
+    print!("{}", text(&images, &waits));
     Ok(())
 }

@@ -15,6 +15,7 @@ pub fn input(cases: &[Case]) -> Vec<u8> {
 
 fn put_case(words: &mut Vec<u32>, case: &Case) {
     put_list(words, &case.memory);
+    words.push(case.bottom);
     put_list(words, &case.waits);
     put_state(words, &case.state);
     words.push(case.clocks as u32);

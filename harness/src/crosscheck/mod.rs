@@ -29,6 +29,7 @@ use reference::GateState;
 
 pub struct Case {
     memory: Vec<u32>,
+    bottom: u32,
     waits: Vec<u16>,
     state: GateState,
     clocks: u64,

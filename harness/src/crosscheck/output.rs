@@ -14,7 +14,7 @@ fn line(case: &Case) -> String {
     let mut state = case.state;
     let (mut answer, mut finished) = (Ok(()), 0);
     for _ in 0..case.clocks {
-        let clock = gate_clock(&mut memory, &case.waits, &mut state);
+        let clock = gate_clock(&mut memory, case.bottom, &case.waits, &mut state);
         answer = clock.map(|count| finished += count);
     }
     let (answer, state) = (answer_text(answer), state_text(&state));

@@ -23,6 +23,9 @@ const CARRY: Flags = Flags {
 /// Of storing: operations, settings of the flags, move bits, places of B.
 const SETTINGS: u32 = 16 * 16 * 2 * 2;
 
+/// None, the instruction alone, the word that is stored to as well, and all four.
+const BOTTOMS: [u32; 4] = [0, 1, 2, 4];
+
 /// What the cases did, as of generated ones.
 #[derive(Default)]
 pub struct Tally {
@@ -35,14 +38,17 @@ pub fn check(rng: &mut Rng, tally: &mut Tally) -> Result<usize, String> {
     let mut programs = borders();
     programs.push(a_put_back());
     programs.extend((0..SETTINGS).map(storing));
-    for program in &programs {
-        programs::check_program(rng, program, &mut tally.programs)?;
+    for program in &mut programs {
+        for bottom in BOTTOMS {
+            program.bottom = bottom;
+            programs::check_program(rng, program, &mut tally.programs)?;
+        }
     }
     let images = two_faults();
     for bytes in &images {
         images::check_image(rng, bytes, 4, &mut tally.images)?;
     }
-    Ok(programs.len() + images.len())
+    Ok(programs.len() * BOTTOMS.len() + images.len())
 }
 
 /// Operations 1 to 7 where carry and overflow turn, with the carry set.
@@ -109,6 +115,7 @@ fn storing(setting: u32) -> Program {
 fn one_instruction(instruction: Instruction, registers: [u32; 8], flags: Flags) -> Program {
     Program {
         memory: vec![instruction.encode(), 9, 0, 0],
+        bottom: 0,
         waits: Vec::new(),
         start: Machine { registers, flags },
         count: 1,

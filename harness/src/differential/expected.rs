@@ -7,9 +7,9 @@ use crate::words::{machine_words, state_words};
 use fm8502::library::MACHINE_SIZE;
 use reference::{image, GateState, Machine};
 
-pub fn run(memory: &[u32], waits: &[u16], machine: &Machine, count: u32) -> Outcome {
+pub fn run(memory: &[u32], bottom: u32, waits: &[u16], machine: &Machine, count: u32) -> Outcome {
     let mut outcome = Outcome::as_lent(memory, &machine_words(machine), 2);
-    let result = reference::run(&mut outcome.memory, waits, *machine, count);
+    let result = reference::run(&mut outcome.memory, bottom, waits, *machine, count);
     outcome.code = codes::of_run(result.answer);
     if outcome.carried_out() {
         outcome.words = machine_words(&result.machine).to_vec();
@@ -18,11 +18,17 @@ pub fn run(memory: &[u32], waits: &[u16], machine: &Machine, count: u32) -> Outc
     outcome
 }
 
-pub fn file_run(memory: &[u32], places: usize, machine: &Machine, count: u32) -> Outcome {
+pub fn file_run(
+    memory: &[u32],
+    bottom: u32,
+    places: usize,
+    machine: &Machine,
+    count: u32,
+) -> Outcome {
     let mut outcome = Outcome::as_lent(memory, &machine_words(machine), 2);
     outcome.journal = vec![guard(); places];
     let journal = &mut outcome.journal;
-    let result = reference::file_run(&mut outcome.memory, journal, *machine, count);
+    let result = reference::file_run(&mut outcome.memory, bottom, journal, *machine, count);
     outcome.code = codes::of_file_run(result.answer);
     if outcome.carried_out() {
         outcome.words = machine_words(&result.machine).to_vec();
@@ -31,9 +37,15 @@ pub fn file_run(memory: &[u32], places: usize, machine: &Machine, count: u32) ->
     outcome
 }
 
-pub fn gate_run(memory: &[u32], waits: &[u16], state: &GateState, clocks: u64) -> Outcome {
+pub fn gate_run(
+    memory: &[u32],
+    bottom: u32,
+    waits: &[u16],
+    state: &GateState,
+    clocks: u64,
+) -> Outcome {
     let mut outcome = Outcome::as_lent(memory, &state_words(state), 1);
-    let result = reference::gate_run(&mut outcome.memory, waits, *state, clocks);
+    let result = reference::gate_run(&mut outcome.memory, bottom, waits, *state, clocks);
     outcome.code = codes::of_call(result.answer);
     if outcome.carried_out() {
         outcome.words = state_words(&result.state).to_vec();
@@ -43,9 +55,9 @@ pub fn gate_run(memory: &[u32], waits: &[u16], state: &GateState, clocks: u64) -
 }
 
 /// Advances `state` as well.
-pub fn clock(memory: &[u32], waits: &[u16], state: &mut GateState) -> Outcome {
+pub fn clock(memory: &[u32], bottom: u32, waits: &[u16], state: &mut GateState) -> Outcome {
     let mut outcome = Outcome::as_lent(memory, &[], 1);
-    match reference::gate_clock(&mut outcome.memory, waits, state) {
+    match reference::gate_clock(&mut outcome.memory, bottom, waits, state) {
         Ok(finished) => outcome.result = vec![finished],
         Err(refusal) => outcome.code = codes::refused(refusal),
     }

@@ -4,6 +4,7 @@ use super::outcome::Outcome;
 use super::{expected, proved, run_case, same, Check};
 use crate::text::hex_words;
 use crate::words::state_words;
+use reference::generate::bottom::refused_bottom;
 use reference::generate::program::{any_program, Program};
 use reference::generate::state::{gate_state, refused_gate_state};
 use reference::rng::Rng;
@@ -40,9 +41,14 @@ pub fn check_around(rng: &mut Rng, program: &Program, total: u64) -> Check {
 /// all the clocks there are. Past the clock total that word takes a clock for its
 /// address and, with its wait, some for its read.
 pub fn check_halt(rng: &mut Rng, program: &Program, total: u64) -> Check {
-    let Program { memory, waits, .. } = program;
+    let Program {
+        memory,
+        bottom,
+        waits,
+        ..
+    } = program;
     let state = start(rng, program);
-    let between = reference::gate_run(&mut memory.clone(), waits, state, total).state;
+    let between = reference::gate_run(&mut memory.clone(), *bottom, waits, state, total).state;
     let wait = waits.get(between.position as usize).copied();
     let halt = total + 2 + u64::from(wait.unwrap_or(0));
     for clocks in [halt - 1, halt, halt + 1, u64::MAX] {
@@ -52,9 +58,14 @@ pub fn check_halt(rng: &mut Rng, program: &Program, total: u64) -> Check {
 }
 
 pub fn check_gate_run(program: &Program, state: &GateState, clocks: u64) -> Check {
-    let Program { memory, waits, .. } = program;
-    let proved = proved::gate_run(memory, waits, state, clocks);
-    let expected = expected::gate_run(memory, waits, state, clocks);
+    let Program {
+        memory,
+        bottom,
+        waits,
+        ..
+    } = program;
+    let proved = proved::gate_run(memory, *bottom, waits, state, clocks);
+    let expected = expected::gate_run(memory, *bottom, waits, state, clocks);
     same("gate run", &proved, &expected, || {
         gate_case(program, state, clocks)
     })
@@ -62,12 +73,18 @@ pub fn check_gate_run(program: &Program, state: &GateState, clocks: u64) -> Chec
 
 /// Runs that follow on, against one run of all their clocks.
 fn check_parts(program: &Program, state: &GateState, parts: [u64; 3]) -> Check {
+    let Program {
+        memory,
+        bottom,
+        waits,
+        ..
+    } = program;
     let clocks = parts.iter().sum();
-    let expected = expected::gate_run(&program.memory, &program.waits, state, clocks);
-    let mut proved = Outcome::as_lent(&program.memory, &state_words(state), 1);
+    let expected = expected::gate_run(memory, *bottom, waits, state, clocks);
+    let mut proved = Outcome::as_lent(memory, &state_words(state), 1);
     let mut finished = 0;
     for part in parts {
-        proved = proved::gate_run_on(&proved.memory, &program.waits, &proved.words, part);
+        proved = proved::gate_run_on(&proved.memory, *bottom, waits, &proved.words, part);
         finished += proved.result[0];
     }
     proved.result = vec![finished];
@@ -76,26 +93,31 @@ fn check_parts(program: &Program, state: &GateState, parts: [u64; 3]) -> Check {
     })
 }
 
-/// A state in any row, some of them refused: clock by clock, then as one run.
+/// A state in any row, some of them refused, and some for the bottom: clock by clock,
+/// then as one run.
 pub fn check_state(rng: &mut Rng) -> Check {
-    let program = any_program(rng);
+    let mut program = any_program(rng);
     let (words, entries) = (program.memory.len(), program.waits.len());
     let state = if rng.one_in(5) {
         refused_gate_state(rng, words, entries)
     } else {
         gate_state(rng, words, entries)
     };
+    if rng.one_in(20) {
+        program.bottom = refused_bottom(rng, words);
+    }
     check_clocks(&program, state, rng.between(1, 40))?;
     check_gate_run(&program, &state, rng.between(0, 200) as u64)
 }
 
 /// Each clock advances the state and the memory that the clock before it left.
 pub fn check_clocks(program: &Program, start: GateState, clocks: usize) -> Check {
+    let (bottom, waits) = (program.bottom, &program.waits);
     let mut state = start;
     let mut proved = Outcome::as_lent(&program.memory, &state_words(&start), 1);
     for number in 1..=clocks {
-        let expected = expected::clock(&proved.memory, &program.waits, &mut state);
-        proved = proved::clock(&proved.memory, &program.waits, &proved.words);
+        let expected = expected::clock(&proved.memory, bottom, waits, &mut state);
+        proved = proved::clock(&proved.memory, bottom, waits, &proved.words);
         same("clock", &proved, &expected, || {
             let case = gate_case(program, &start, number as u64);
             format!("{case}at the last of these clocks, each a call\n")
@@ -107,5 +129,11 @@ pub fn check_clocks(program: &Program, start: GateState, clocks: usize) -> Check
 fn gate_case(program: &Program, state: &GateState, clocks: u64) -> String {
     let words = hex_words(&state_words(state));
     let far = format!("state{words}\nclocks {clocks}");
-    run_case(&program.memory, &state.machine(), &program.waits, far)
+    let Program {
+        memory,
+        bottom,
+        waits,
+        ..
+    } = program;
+    run_case(memory, *bottom, &state.machine(), waits, far)
 }

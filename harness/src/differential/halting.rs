@@ -21,6 +21,9 @@ const WAITS: [&[u16]; 4] = [&[], &[0], &[2, 3, 0, 5], &[7, 1]];
 /// Some end before the word, some just before it.
 const COUNTS: [u32; 5] = [0, 1, 2, 3, 6];
 
+/// None, the first word, the one stored ahead of r0 too, and all of a memory.
+const BOTTOMS: [u32; 4] = [0, 1, 2, u32::MAX];
+
 /// More clocks than any of the programs takes until it halts.
 const CLOCKS: usize = 80;
 
@@ -38,19 +41,28 @@ fn check_bits(rng: &mut Rng, bits: u32, tally: &mut Tally) -> Check {
         for (memory, start) in programs(bits) {
             let mut program = Program {
                 memory,
+                bottom: 0,
                 waits: waits.to_vec(),
                 start,
                 count: 0,
             };
-            check_clocks(&program, GateState::start(start), CLOCKS)?;
-            for count in COUNTS {
-                program.count = count;
-                programs::check_program(rng, &program, tally)?;
+            for bottom in BOTTOMS {
+                program.bottom = bottom.min(program.memory.len() as u32);
+                check_counts(rng, &mut program, tally)?;
             }
         }
         check_lent(rng, bits, waits)?;
     }
     check_written(bits)
+}
+
+fn check_counts(rng: &mut Rng, program: &mut Program, tally: &mut Tally) -> Check {
+    check_clocks(program, GateState::start(program.start), CLOCKS)?;
+    for count in COUNTS {
+        program.count = count;
+        programs::check_program(rng, program, tally)?;
+    }
+    Ok(())
 }
 
 /// Flags that are lent as 9 are read as 1, and so written: the machine is written.
@@ -59,7 +71,7 @@ fn check_written(bits: u32) -> Check {
     machine[8..].fill(9);
     let mut result = [7; 2];
     let memory = &mut [INCREMENT, INCREMENT | bits];
-    let code = library::run(memory, &[], &mut machine, 9, &mut result);
+    let code = library::run(memory, 0, &[], &mut machine, 9, &mut result);
     let due = [1, 1, 0, 0, 0, 0, 0, 0, 1, 1, 1, 1];
     if (code, machine, result) == (HALTED, due, [1, 9]) {
         return Ok(());
@@ -112,6 +124,7 @@ fn programs(bits: u32) -> Vec<(Vec<u32>, Machine)> {
 fn check_lent(rng: &mut Rng, bits: u32, waits: &[u16]) -> Check {
     let program = Program {
         memory: vec![INCREMENT, INCREMENT | bits, 0, 1],
+        bottom: 0,
         waits: waits.to_vec(),
         start: Machine::default(),
         count: 0,

@@ -1,4 +1,4 @@
-//! The longest memory, and one word more.
+//! The longest memory, and one word more; the same for its bottom.
 
 use super::{expected, proved, Check};
 use fm8502::library::{self, MACHINE_SIZE, STATE_SIZE};
@@ -7,10 +7,15 @@ use reference::refusal::MOST_WORDS;
 use reference::Machine;
 
 const TOO_MANY_WORDS: u32 = 2;
+const BOTTOM_TOO_HIGH: u32 = 21;
 
 pub fn check() -> Check {
     check_longest()?;
-    check_too_long()
+    check_refused(MOST_WORDS, MOST_WORDS as u32 + 1, BOTTOM_TOO_HIGH)?;
+    check_refused(MOST_WORDS, u32::MAX, BOTTOM_TOO_HIGH)?;
+    check_refused(MOST_WORDS + 1, 0, TOO_MANY_WORDS)?;
+    check_refused(MOST_WORDS + 1, u32::MAX, TOO_MANY_WORDS)?;
+    check_too_long_image()
 }
 
 /// As [`super::same`], without printing 16,777,216 words.
@@ -31,13 +36,20 @@ fn check_longest() -> Check {
     memory[2] = memory[0];
     memory[MOST_WORDS - 1] = 41;
     let mut machine = Machine::default();
-    machine.registers[1] = MOST_WORDS as u32 - 1;
-    let ran = proved::run(&memory, &[], &machine, 9);
-    agree("run", ran == expected::run(&memory, &[], &machine, 9))?;
-    drop(ran);
+    let last = MOST_WORDS as u32 - 1;
+    machine.registers[1] = last;
+    for bottom in [0, last, last + 1] {
+        let ran = proved::run(&memory, bottom, &[], &machine, 9);
+        let equal = ran == expected::run(&memory, bottom, &[], &machine, 9);
+        agree(&format!("run with bottom {bottom}"), equal)?;
+    }
+    check_longest_image(memory, &machine)
+}
+
+fn check_longest_image(mut memory: Vec<u32>, machine: &Machine) -> Check {
     let room = image_size(MOST_WORDS);
-    let written = proved::image_write(&memory, &machine, room);
-    let equal = written == expected::image_write(&memory, &machine, room);
+    let written = proved::image_write(&memory, machine, room);
+    let equal = written == expected::image_write(&memory, machine, room);
     agree("image write", equal)?;
     memory.fill(7);
     let loaded = proved::image_read(&written.output, &memory);
@@ -45,25 +57,39 @@ fn check_longest() -> Check {
     agree("image read", equal && loaded.memory == written.memory)
 }
 
-fn check_too_long() -> Check {
-    let mut memory = vec![0; MOST_WORDS + 1];
-    let (mut machine, mut state) = ([0; MACHINE_SIZE], [0; STATE_SIZE]);
+/// The four runs, with every later reason to refuse them as well, but for 21 where the
+/// bottom is 0.
+fn check_refused(words: usize, bottom: u32, due: u32) -> Check {
+    let mut memory = vec![0; words];
+    let long_list = [0; 65_537];
+    let (mut machine, mut state) = ([0; MACHINE_SIZE], [13; STATE_SIZE]);
     let (mut two, mut one) = ([7; 2], [7; 1]);
     let codes = [
-        library::run(&mut memory, &[0; 65_537], &mut machine, 9, &mut two),
-        library::file_run(&mut memory, &mut [], &mut machine, 65_537, &mut two),
-        library::gate_run(&mut memory, &[0; 65_537], &mut state, 9, &mut one),
-        library::clock(&mut memory, &[], &mut state, &mut one),
-        library::image_write(&memory, &machine, &mut [], &mut one),
+        library::run(&mut memory, bottom, &long_list, &mut machine, 9, &mut two),
+        library::file_run(&mut memory, bottom, &mut [], &mut machine, 65_537, &mut two),
+        library::gate_run(&mut memory, bottom, &long_list, &mut state, 9, &mut one),
+        library::clock(&mut memory, bottom, &long_list, &mut state, &mut one),
     ];
     let unchanged = memory.iter().all(|&word| word == 0)
         && machine == [0; MACHINE_SIZE]
-        && state == [0; STATE_SIZE]
+        && state == [13; STATE_SIZE]
         && (two, one) == ([7; 2], [7; 1]);
-    if codes == [TOO_MANY_WORDS; 5] && unchanged {
+    if codes == [due; 4] && unchanged {
         return Ok(());
     }
     Err(format!(
-        "a memory one word too long: codes {codes:?}, unchanged: {unchanged}\n"
+        "a memory of {words} words, bottom {bottom}: codes {codes:?}, unchanged: {unchanged}\n"
+    ))
+}
+
+fn check_too_long_image() -> Check {
+    let memory = vec![0; MOST_WORDS + 1];
+    let mut result = [7; 1];
+    let code = library::image_write(&memory, &[0; MACHINE_SIZE], &mut [], &mut result);
+    if (code, result) == (TOO_MANY_WORDS, [7; 1]) {
+        return Ok(());
+    }
+    Err(format!(
+        "an image of a memory one word too long: code {code}, result {result:?}\n"
     ))
 }

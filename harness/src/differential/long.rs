@@ -16,6 +16,13 @@ const MOVE: u8 = 0;
 const INCREMENT: u8 = 1;
 const ADD: u8 = 3;
 
+/// Where the turns are counted, the last word; with a bottom past it they are not.
+const COUNTER: u32 = 3;
+const AROUND_COUNTER: [u32; 3] = [0, COUNTER, COUNTER + 1];
+
+/// A journal is filled whole; or half, as the first half of the stores is below.
+const AROUND_STORES: [u32; 2] = [0, MOST_INSTRUCTIONS / 2 * 3];
+
 /// No flag is permitted.
 const NONE: [bool; 4] = [false; 4];
 
@@ -23,20 +30,34 @@ pub fn check(rng: &mut Rng, tally: &mut Tally) -> Check {
     for entries in [1, 2, 3, 5, MOST_WAITS] {
         // Two entries in a row differ, the last and the first too: a wrong one is seen.
         let waits = (0..entries).map(|i| (i % 7) as u16 + 1).collect();
-        programs::check_program(rng, &crossing_its_list(waits), tally)?;
+        let mut program = crossing_its_list(waits);
+        for bottom in AROUND_COUNTER {
+            program.bottom = bottom;
+            programs::check_program(rng, &program, tally)?;
+        }
     }
     let store = compute(ADD, NONE, Operand::Direct(1), Operand::After(4));
     let outside = compute(ADD, NONE, Operand::Direct(1), Operand::Before(5));
     let no_instruction = store | halting_bits(rng);
     for last in [store, outside, no_instruction] {
-        let program = full_journal(rng, store, last);
-        programs::check_program(rng, &program, tally)?;
+        let mut program = full_journal(rng, store, last);
+        for bottom in AROUND_STORES {
+            program.bottom = bottom;
+            programs::check_program(rng, &program, tally)?;
+        }
     }
-    // A gate run of so many clocks would take too long.
-    let run = programs::check_run(&crossing_its_list(vec![u16::MAX; MOST_WAITS]), tally)?;
-    let total = run.result[1];
-    if total <= u64::from(u32::MAX) {
-        return Err(format!("a clock total of {total} is of 32 bits\n"));
+    check_long_total(tally)
+}
+
+/// A gate run of so many clocks would take too long.
+fn check_long_total(tally: &mut Tally) -> Check {
+    let mut program = crossing_its_list(vec![u16::MAX; MOST_WAITS]);
+    for bottom in AROUND_COUNTER {
+        program.bottom = bottom;
+        let total = programs::check_run(&program, tally)?.result[1];
+        if total <= u64::from(u32::MAX) {
+            return Err(format!("a clock total of {total} is of 32 bits\n"));
+        }
     }
     Ok(())
 }
@@ -46,7 +67,7 @@ pub fn check(rng: &mut Rng, tally: &mut Tally) -> Check {
 /// jump takes r0 to the top address, from which it steps up to 0.
 fn crossing_its_list(waits: Vec<u16>) -> Program {
     let mut start = Machine::default();
-    start.registers[4] = 3;
+    start.registers[4] = COUNTER;
     let turns = waits.len() as u32 / 6 + 400;
     Program {
         memory: vec![
@@ -55,6 +76,7 @@ fn crossing_its_list(waits: Vec<u16>) -> Program {
             u32::MAX,
             0,
         ],
+        bottom: 0,
         waits,
         start,
         count: 2 * turns,
@@ -73,6 +95,7 @@ fn full_journal(rng: &mut Rng, store: u32, last: u32) -> Program {
     start.registers[4] = MOST_INSTRUCTIONS;
     Program {
         memory,
+        bottom: 0,
         waits: Vec::new(),
         start,
         count: MOST_INSTRUCTIONS,

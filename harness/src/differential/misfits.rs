@@ -26,6 +26,10 @@ const STATES: [(usize, usize); 6] = [
     (STATE_SIZE, 2),
 ];
 
+/// Words of memory, and bottoms: one that fits, and one to refuse if nothing came first.
+const WORDS: u32 = 4;
+const BOTTOMS: [u32; 2] = [0, WORDS + 1];
+
 /// Counts a call, which must be answered so and leave everything lent unchanged.
 fn misfit(calls: &mut usize, call: &str, code: u32, unchanged: bool) -> Check {
     *calls += 1;
@@ -47,31 +51,42 @@ pub fn check() -> Result<usize, String> {
 
 fn check_machines(calls: &mut usize) -> Check {
     for (length, places) in MACHINES {
-        check_machine(calls, length, places)?;
+        for bottom in BOTTOMS {
+            check_machine(calls, bottom, length, places)?;
+        }
     }
     Ok(())
 }
 
 fn check_states(calls: &mut usize) -> Check {
     for (length, places) in STATES {
-        check_state(calls, length, places)?;
+        for bottom in BOTTOMS {
+            check_state(calls, bottom, length, places)?;
+        }
     }
     Ok(())
 }
 
 /// A machine of `length` words and `places` result places (one less for images).
-fn check_machine(calls: &mut usize, length: usize, places: usize) -> Check {
-    let mut memory = [7; 4];
+fn check_machine(calls: &mut usize, bottom: u32, length: usize, places: usize) -> Check {
+    let mut memory = [7; WORDS as usize];
     let mut journal = [7; 8];
     let mut machine = vec![7; length];
     let mut result = vec![7; places];
     let lent = (memory, journal, machine.clone(), result.clone());
     let mut image = [7; 128];
 
-    let code = library::run(&mut memory, &[], &mut machine, 1, &mut result);
+    let code = library::run(&mut memory, bottom, &[], &mut machine, 1, &mut result);
     let now = (memory, journal, machine.clone(), result.clone());
     misfit(calls, "run", code, now == lent)?;
-    let code = library::file_run(&mut memory, &mut journal, &mut machine, 1, &mut result);
+    let code = library::file_run(
+        &mut memory,
+        bottom,
+        &mut journal,
+        &mut machine,
+        1,
+        &mut result,
+    );
     let now = (memory, journal, machine.clone(), result.clone());
     misfit(calls, "file run", code, now == lent)?;
 
@@ -86,16 +101,16 @@ fn check_machine(calls: &mut usize, length: usize, places: usize) -> Check {
 }
 
 /// A state of `length` words and `places` result places.
-fn check_state(calls: &mut usize, length: usize, places: usize) -> Check {
-    let mut memory = [7; 4];
+fn check_state(calls: &mut usize, bottom: u32, length: usize, places: usize) -> Check {
+    let mut memory = [7; WORDS as usize];
     let mut state = vec![0; length];
     let mut result = vec![7; places];
     let lent = (memory, state.clone(), result.clone());
 
-    let code = library::gate_run(&mut memory, &[], &mut state, 1, &mut result);
+    let code = library::gate_run(&mut memory, bottom, &[], &mut state, 1, &mut result);
     let now = (memory, state.clone(), result.clone());
     misfit(calls, "gate run", code, now == lent)?;
-    let code = library::clock(&mut memory, &[], &mut state, &mut result);
+    let code = library::clock(&mut memory, bottom, &[], &mut state, &mut result);
     let now = (memory, state, result);
     misfit(calls, "clock", code, now == lent)
 }

@@ -1,6 +1,7 @@
 //! The proved calls against the reference emulator on generated and directed cases.
 
 mod alone;
+pub mod bottom;
 pub mod directed;
 mod expected;
 pub mod gates;
@@ -36,11 +37,17 @@ fn same(call: &str, proved: &Outcome, expected: &Outcome, case: impl FnOnce() ->
     ))
 }
 
-/// What a run was lent: the image of its start, the wait list, and how far.
-fn run_case(memory: &[u32], machine: &Machine, waits: &[u16], far: impl Display) -> String {
+/// What a run was lent: the image of its start, the bottom, the wait list, and how far.
+fn run_case(
+    memory: &[u32],
+    bottom: u32,
+    machine: &Machine,
+    waits: &[u16],
+    far: impl Display,
+) -> String {
     let image = match image::to_bytes(machine, memory) {
         Ok(bytes) => hex_bytes(&bytes),
         Err(refusal) => format!("none, as the writer refuses it with {refusal}"),
     };
-    format!("image {image}\nwaits {waits:?}\n{far}\n")
+    format!("image {image}\nbottom {bottom}\nwaits {waits:?}\n{far}\n")
 }

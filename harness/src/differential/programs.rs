@@ -16,15 +16,18 @@ pub struct Tally {
     pub outside: u64,
     pub halted: u64,
     pub journal_pairs: u64,
+    /// Programs with a store below their bottom.
+    pub below: u64,
 }
 
 impl fmt::Display for Tally {
     fn fmt(&self, f: &mut fmt::Formatter<'_>) -> fmt::Result {
         write!(
             f,
-            "{} instructions, {} clocks, {} outside, {} halted, {} journal pairs",
+            "{} instructions, {} clocks, {} outside, {} halted, {} journal pairs, ",
             self.instructions, self.clocks, self.outside, self.halted, self.journal_pairs
-        )
+        )?;
+        write!(f, "{} stored below the bottom", self.below)
     }
 }
 
@@ -51,43 +54,57 @@ pub fn check_program(rng: &mut Rng, program: &Program, tally: &mut Tally) -> Che
 
 /// Returns what is expected: the clock total is its second result.
 pub fn check_run(program: &Program, tally: &mut Tally) -> Result<Outcome, String> {
-    let Program {
-        memory,
-        waits,
-        start,
-        count,
-    } = program;
-    let proved = proved::run(memory, waits, start, *count);
-    let expected = expected::run(memory, waits, start, *count);
-    same("run", &proved, &expected, || {
-        run_case(memory, start, waits, format_args!("count {count}"))
-    })?;
+    let expected = compare_run(program)?;
     tally.instructions += expected.result[0];
     tally.clocks += expected.result[1];
     tally.outside += u64::from(expected.code == STOPPED);
     tally.halted += u64::from(expected.code == HALTED);
+    tally.below += u64::from(program.stores_below_bottom() > 0);
+    Ok(expected)
+}
+
+/// Of any program, refused or not; returns what is expected.
+pub fn compare_run(program: &Program) -> Result<Outcome, String> {
+    let Program {
+        memory,
+        bottom,
+        waits,
+        start,
+        count,
+    } = program;
+    let proved = proved::run(memory, *bottom, waits, start, *count);
+    let expected = expected::run(memory, *bottom, waits, start, *count);
+    same("run", &proved, &expected, || {
+        run_case(memory, *bottom, start, waits, format_args!("count {count}"))
+    })?;
     Ok(expected)
 }
 
 /// With a journal of just enough places, of more, and of too few.
 fn check_file_run(rng: &mut Rng, program: &Program, tally: &mut Tally) -> Check {
+    let enough = 2 * program.count as usize;
+    let expected = compare_file_run(program, enough)?;
+    tally.journal_pairs += expected.result[1];
+    for places in [enough + rng.between(1, 5), rng.below(enough.max(1))] {
+        compare_file_run(program, places)?;
+    }
+    Ok(())
+}
+
+/// With a journal of so many places; returns what is expected.
+pub fn compare_file_run(program: &Program, places: usize) -> Result<Outcome, String> {
     let Program {
         memory,
+        bottom,
         start,
         count,
         ..
     } = program;
-    let enough = 2 * *count as usize;
-    for places in [enough, enough + rng.between(1, 5), rng.below(enough.max(1))] {
-        let proved = proved::file_run(memory, places, start, *count);
-        let expected = expected::file_run(memory, places, start, *count);
-        same("file run", &proved, &expected, || {
-            let far = format_args!("count {count} journal {places} places");
-            run_case(memory, start, &[], far)
-        })?;
-        if places == enough {
-            tally.journal_pairs += expected.result[1];
-        }
-    }
-    Ok(())
+    let proved = proved::file_run(memory, *bottom, places, start, *count);
+    let expected = expected::file_run(memory, *bottom, places, start, *count);
+    same("file run", &proved, &expected, || {
+        let far = format_args!("count {count} journal {places} places");
+        run_case(memory, *bottom, start, &[], far)
+    })?;
+    Ok(expected)
 }

@@ -44,10 +44,11 @@ impl Buffers {
     }
 }
 
-pub fn run(memory: &[u32], waits: &[u16], machine: &Machine, count: u32) -> Outcome {
+pub fn run(memory: &[u32], bottom: u32, waits: &[u16], machine: &Machine, count: u32) -> Outcome {
     let mut lent = Buffers::new(memory, &machine_words(machine), 2);
     let code = library::run(
         lent.memory.slice(),
+        bottom,
         waits,
         lent.words.slice(),
         count,
@@ -57,11 +58,18 @@ pub fn run(memory: &[u32], waits: &[u16], machine: &Machine, count: u32) -> Outc
 }
 
 /// The journal has `places` places.
-pub fn file_run(memory: &[u32], places: usize, machine: &Machine, count: u32) -> Outcome {
+pub fn file_run(
+    memory: &[u32],
+    bottom: u32,
+    places: usize,
+    machine: &Machine,
+    count: u32,
+) -> Outcome {
     let mut lent = Buffers::new(memory, &machine_words(machine), 2);
     lent.journal = Lent::new(&vec![guard(); places]);
     let code = library::file_run(
         lent.memory.slice(),
+        bottom,
         lent.journal.slice(),
         lent.words.slice(),
         count,
@@ -70,15 +78,28 @@ pub fn file_run(memory: &[u32], places: usize, machine: &Machine, count: u32) ->
     lent.after(code)
 }
 
-pub fn gate_run(memory: &[u32], waits: &[u16], state: &GateState, clocks: u64) -> Outcome {
-    gate_run_on(memory, waits, &state_words(state), clocks)
+pub fn gate_run(
+    memory: &[u32],
+    bottom: u32,
+    waits: &[u16],
+    state: &GateState,
+    clocks: u64,
+) -> Outcome {
+    gate_run_on(memory, bottom, waits, &state_words(state), clocks)
 }
 
 /// The state is given in its words, so that a call can go on from the last one.
-pub fn gate_run_on(memory: &[u32], waits: &[u16], state: &[u32], clocks: u64) -> Outcome {
+pub fn gate_run_on(
+    memory: &[u32],
+    bottom: u32,
+    waits: &[u16],
+    state: &[u32],
+    clocks: u64,
+) -> Outcome {
     let mut lent = Buffers::new(memory, state, 1);
     let code = library::gate_run(
         lent.memory.slice(),
+        bottom,
         waits,
         lent.words.slice(),
         clocks,
@@ -88,10 +109,11 @@ pub fn gate_run_on(memory: &[u32], waits: &[u16], state: &[u32], clocks: u64) ->
 }
 
 /// The state in its words, as for [`gate_run_on`].
-pub fn clock(memory: &[u32], waits: &[u16], state: &[u32]) -> Outcome {
+pub fn clock(memory: &[u32], bottom: u32, waits: &[u16], state: &[u32]) -> Outcome {
     let mut lent = Buffers::new(memory, state, 1);
     let code = library::clock(
         lent.memory.slice(),
+        bottom,
         waits,
         lent.words.slice(),
         lent.result.slice(),

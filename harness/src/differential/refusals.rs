@@ -1,9 +1,9 @@
 //! Calls that are refused for one reason or for several: which number comes first.
 
-use super::{expected, proved, run_case, same, Check};
-use crate::words::state_words;
+use super::gates::{check_clocks, check_gate_run};
+use super::{expected, programs, proved, run_case, same};
 use fm8502::library::{self, MACHINE_SIZE, STATE_SIZE, STOPPED};
-use reference::generate::program::{program, Kind};
+use reference::generate::program::{program, Kind, Program};
 use reference::generate::state::{gate_state, refused_gate_state};
 use reference::image::image_size;
 use reference::rng::Rng;
@@ -36,50 +36,65 @@ pub fn check(rng: &mut Rng) -> Result<usize, String> {
     let waits: Vec<u16> = (0..70_000).map(|_| rng.below(4) as u16).collect();
     let mut calls = 0;
     for memory in [&good.memory[..], &[]] {
-        for entries in LIST_LENGTHS {
-            check_run(memory, &waits[..entries], &good.start)?;
-            calls += 1 + check_gate(rng, memory, &waits[..entries])?;
-            calls += check_too_wide(memory, &waits[..entries])?;
-            calls += check_rows(memory, &waits[..entries])?;
+        for bottom in bottoms(memory.len()) {
+            let program = Program {
+                memory: memory.to_vec(),
+                bottom,
+                waits: Vec::new(),
+                start: good.start,
+                count: 9,
+            };
+            calls += check_lists(rng, &program, &waits)?;
+            calls += check_file_run(&program)?;
         }
-        for entries in [0, 1, 2, 3, 5, 65_535, 65_536, 65_537] {
-            calls += check_positions(memory, &waits[..entries])?;
-        }
-        calls += check_file_run(memory, &good.start)?;
         calls += check_write(memory, &good.start)?;
     }
     calls += check_words_kept(&waits)?;
     Ok(calls)
 }
 
-fn check_run(memory: &[u32], waits: &[u16], start: &Machine) -> Check {
-    let proved = proved::run(memory, waits, start, 9);
-    let expected = expected::run(memory, waits, start, 9);
-    same("run", &proved, &expected, || {
-        run_case(memory, start, waits, "count 9")
-    })
+/// None, the whole memory, one word more, and as many as can be asked for.
+fn bottoms(words: usize) -> Vec<u32> {
+    let length = words as u32;
+    let mut bottoms = vec![0, length, length + 1, u32::MAX];
+    bottoms.dedup();
+    bottoms
 }
 
-fn check_gate(rng: &mut Rng, memory: &[u32], waits: &[u16]) -> Result<usize, String> {
+/// With wait lists up to the longest and past it.
+fn check_lists(rng: &mut Rng, program: &Program, waits: &[u16]) -> Result<usize, String> {
+    let with_list = |entries: usize| Program {
+        waits: waits[..entries].to_vec(),
+        ..program.clone()
+    };
+    let mut calls = 0;
+    for program in LIST_LENGTHS.map(with_list) {
+        programs::compare_run(&program)?;
+        calls += 1 + check_gate(rng, &program)?;
+        calls += check_too_wide(&program)?;
+        calls += check_rows(&program)?;
+    }
+    for program in [0, 1, 2, 3, 5, 65_535, 65_536, 65_537].map(with_list) {
+        calls += check_positions(&program)?;
+    }
+    Ok(calls)
+}
+
+fn check_gate(rng: &mut Rng, program: &Program) -> Result<usize, String> {
     const STATES: usize = 40;
+    let entries = program.waits.len();
     for number in 0..STATES {
         let state = match number % 4 {
-            0 => gate_state(rng, 16, waits.len()),
-            _ => refused_gate_state(rng, 16, waits.len()),
+            0 => gate_state(rng, 16, entries),
+            _ => refused_gate_state(rng, 16, entries),
         };
-        let clocks = rng.pick(&[0, 1, 50]);
-        let proved = proved::gate_run(memory, waits, &state, clocks);
-        let expected = expected::gate_run(memory, waits, &state, clocks);
-        same("gate run", &proved, &expected, || {
-            let far = format!("{state:X?}\nclocks {clocks}");
-            run_case(memory, &state.machine(), waits, far)
-        })?;
+        check_gate_run(program, &state, rng.pick(&[0, 1, 50]))?;
     }
     Ok(STATES)
 }
 
 /// Each row, and some past the last, with and without an access.
-fn check_rows(memory: &[u32], waits: &[u16]) -> Result<usize, String> {
+fn check_rows(program: &Program) -> Result<usize, String> {
     let mut calls = 0;
     for row in (0..=14).chain([127, 128, 255]) {
         for (begun, left) in ACCESSES {
@@ -89,30 +104,23 @@ fn check_rows(memory: &[u32], waits: &[u16]) -> Result<usize, String> {
                 left,
                 ..GateState::default()
             };
-            calls += check_one_clock(memory, waits, &state)?;
+            calls += check_one_clock(program, &state)?;
         }
     }
     Ok(calls)
 }
 
 /// As a gate run and as the one-clock call; returns that these are two.
-fn check_one_clock(memory: &[u32], waits: &[u16], state: &GateState) -> Result<usize, String> {
-    let case = || {
-        let far = format!("{state:X?}\na clock");
-        run_case(memory, &state.machine(), waits, far)
-    };
-    let expected = expected::gate_run(memory, waits, state, 1);
-    let run = proved::gate_run(memory, waits, state, 1);
-    same("gate run", &run, &expected, case)?;
-    let clock = proved::clock(memory, waits, &state_words(state));
-    same("clock", &clock, &expected, case)?;
+fn check_one_clock(program: &Program, state: &GateState) -> Result<usize, String> {
+    check_gate_run(program, state, 1)?;
+    check_clocks(program, *state, 1)?;
     Ok(2)
 }
 
 /// List positions up to the list's end, at it and past it, in a state that is good
 /// otherwise: row 4 takes an entry.
-fn check_positions(memory: &[u32], waits: &[u16]) -> Result<usize, String> {
-    let end = waits.len() as u32;
+fn check_positions(program: &Program) -> Result<usize, String> {
+    let end = program.waits.len() as u32;
     let last = end.saturating_sub(1);
     let mut positions = vec![0, 1, last, end, end + 1, 65_536, 65_537, 1 << 31, u32::MAX];
     positions.sort();
@@ -124,19 +132,25 @@ fn check_positions(memory: &[u32], waits: &[u16]) -> Result<usize, String> {
             position,
             ..GateState::default()
         };
-        calls += check_one_clock(memory, waits, &state)?;
+        calls += check_one_clock(program, &state)?;
     }
     Ok(calls)
 }
 
 /// Words that are no row of 8 bits or no clocks left of 16 bits are refused as a row
 /// above 12 is, and flags that are lent as 9 stay.
-fn check_too_wide(memory: &[u32], waits: &[u16]) -> Result<usize, String> {
+fn check_too_wide(program: &Program) -> Result<usize, String> {
+    let Program {
+        memory,
+        bottom,
+        waits,
+        ..
+    } = program;
     let bad_row = GateState {
         row: 255,
         ..GateState::default()
     };
-    let mut expected = expected::gate_run(memory, waits, &bad_row, 1);
+    let mut expected = expected::gate_run(memory, *bottom, waits, &bad_row, 1);
     // Row, begun, clocks left.
     let states = [(256, 0, 0), (0, 0, 65_536), (1, 1, 65_536)];
     for (row, begun, left) in states {
@@ -145,28 +159,28 @@ fn check_too_wide(memory: &[u32], waits: &[u16]) -> Result<usize, String> {
         (words[ROW], words[BEGUN], words[LEFT]) = (row, begun, left);
         expected.words = words.to_vec();
         for proved in [
-            proved::gate_run_on(memory, waits, &words, 1),
-            proved::clock(memory, waits, &words),
+            proved::gate_run_on(memory, *bottom, waits, &words, 1),
+            proved::clock(memory, *bottom, waits, &words),
         ] {
             same("gate run or clock", &proved, &expected, || {
-                run_case(memory, &bad_row.machine(), waits, format!("{words:?}"))
+                let far = format!("{words:?}");
+                run_case(memory, *bottom, &bad_row.machine(), waits, far)
             })?;
         }
     }
     Ok(2 * states.len())
 }
 
-fn check_file_run(memory: &[u32], start: &Machine) -> Result<usize, String> {
+fn check_file_run(program: &Program) -> Result<usize, String> {
     let mut calls = 0;
     for count in [0, 1, 9, 65_536, 65_537, u32::MAX] {
+        let program = Program {
+            count,
+            ..program.clone()
+        };
         let enough = 2 * count.min(65_537) as usize;
         for places in [0, enough.saturating_sub(1), enough, enough + 1] {
-            let proved = proved::file_run(memory, places, start, count);
-            let expected = expected::file_run(memory, places, start, count);
-            same("file run", &proved, &expected, || {
-                let far = format_args!("count {count} journal {places} places");
-                run_case(memory, start, &[], far)
-            })?;
+            programs::compare_file_run(&program, places)?;
             calls += 1;
         }
     }
@@ -178,26 +192,38 @@ fn check_file_run(memory: &[u32], start: &Machine) -> Result<usize, String> {
 /// next word is no instruction.
 fn check_words_kept(long_waits: &[u16]) -> Result<usize, String> {
     const INCREMENT: u32 = 0x0001_0021;
-    Ok(check_kept(&mut [INCREMENT], long_waits)?
-        + check_kept(&mut [INCREMENT, INCREMENT | 1 << 14], long_waits)?)
+    let memories = [&mut [INCREMENT][..], &mut [INCREMENT, INCREMENT | 1 << 14]];
+    let mut calls = 0;
+    for memory in memories {
+        let length = memory.len() as u32;
+        calls += check_kept(memory, length, long_waits, [3, 6, 6, STOPPED])?;
+        calls += check_kept(memory, length + 1, long_waits, [21; 4])?;
+    }
+    Ok(calls)
 }
 
-fn check_kept(memory: &mut [u32], long_waits: &[u16]) -> Result<usize, String> {
+/// A run, and file runs with two journals that are too short and one that is not.
+fn check_kept(
+    memory: &mut [u32],
+    bottom: u32,
+    long_waits: &[u16],
+    due: [u32; 4],
+) -> Result<usize, String> {
     let mut machine = [0; MACHINE_SIZE];
     machine[FLAGS].fill(9);
     let lent = machine;
     let result = &mut [0; 2];
 
-    let run = library::run(memory, long_waits, &mut machine, 9, result);
+    let run = library::run(memory, bottom, long_waits, &mut machine, 9, result);
     let mut codes = vec![run];
     for places in [0, 17, 18] {
         let journal = &mut vec![0; places];
-        let code = library::file_run(memory, journal, &mut machine, 9, result);
+        let code = library::file_run(memory, bottom, journal, &mut machine, 9, result);
         codes.push(code);
     }
-    if codes != [3, 6, 6, STOPPED] || machine != lent {
+    if codes != due || machine != lent {
         return Err(format!(
-            "a run and file runs with flags of 9: codes {codes:?}, machine {machine:?}\n"
+            "a run and file runs with flags of 9, bottom {bottom}: codes {codes:?}, machine {machine:?}\n"
         ));
     }
     Ok(codes.len())
@@ -210,7 +236,7 @@ fn check_write(memory: &[u32], start: &Machine) -> Result<usize, String> {
         let proved = proved::image_write(memory, start, room);
         let expected = expected::image_write(memory, start, room);
         same("image write", &proved, &expected, || {
-            run_case(memory, start, &[], format_args!("room {room} bytes"))
+            run_case(memory, 0, start, &[], format_args!("room {room} bytes"))
         })?;
     }
     Ok(rooms.len())

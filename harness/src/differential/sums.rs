@@ -1,7 +1,7 @@
 //! What the library's sums and halves mean (CR 13): the result and the flags that an
 //! instruction leaves, read as integers, and not what the reference's unit gives.
 
-use super::alone::{alone, CLOCKS};
+use super::alone::{alone, BOTTOMS, CLOCKS};
 use super::outcome::Outcome;
 use super::{proved, Check};
 use crate::words::machine_of;
@@ -30,13 +30,17 @@ pub fn check(rng: &mut Rng) -> Result<usize, String> {
 /// In the interpreter and in the gate machine.
 fn check_use(case: &Use) -> Check {
     let (memory, start) = alone(case.operation, case.a, case.b, case.carry);
-    let run = proved::run(&memory, &[], &start, 1);
-    check_meaning("run", case, &run)?;
-    let gate_run = proved::gate_run(&memory, &[], &GateState::start(start), CLOCKS);
-    check_meaning("gate run", case, &gate_run)
+    for bottom in BOTTOMS {
+        let run = proved::run(&memory, bottom, &[], &start, 1);
+        check_meaning("run", case, bottom, &run)?;
+        let state = GateState::start(start);
+        let gate_run = proved::gate_run(&memory, bottom, &[], &state, CLOCKS);
+        check_meaning("gate run", case, bottom, &gate_run)?;
+    }
+    Ok(())
 }
 
-fn check_meaning(call: &str, case: &Use, outcome: &Outcome) -> Check {
+fn check_meaning(call: &str, case: &Use, bottom: u32, outcome: &Outcome) -> Check {
     let machine = machine_of(&outcome.words);
     let answer = AluResult {
         word: machine.registers[2],
@@ -46,6 +50,6 @@ fn check_meaning(call: &str, case: &Use, outcome: &Outcome) -> Check {
         return Ok(());
     }
     Err(format!(
-        "{call}: {case}: the result does not mean what it must\n{outcome}"
+        "{call}: {case}, bottom {bottom}: the result does not mean what it must\n{outcome}"
     ))
 }

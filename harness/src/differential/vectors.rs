@@ -1,7 +1,7 @@
 //! The outside vectors through the library: what they say is expected, and not
 //! what the reference makes of them.
 
-use super::alone::{alone, machine, CLOCKS};
+use super::alone::{alone, machine, BOTTOMS, CLOCKS};
 use super::lent::guard;
 use super::outcome::Outcome;
 use super::{proved, same, Check};
@@ -13,13 +13,15 @@ use reference::{Flags, GateState};
 pub fn check() -> Result<usize, String> {
     let vectors = vectors();
     for vector in &vectors {
-        check_vector(vector)?;
+        for bottom in BOTTOMS {
+            check_vector(vector, bottom)?;
+        }
     }
     Ok(vectors.len())
 }
 
 /// In each kind of run.
-fn check_vector(vector: &Vector) -> Check {
+fn check_vector(vector: &Vector, bottom: u32) -> Check {
     let (memory, start) = alone(vector.operation, vector.a, vector.b, vector.carry_in);
     let flags = [
         vector.carry,
@@ -30,7 +32,7 @@ fn check_vector(vector: &Vector) -> Check {
     let end = machine(1, vector.a, vector.result, Flags::from_array(flags));
     let case = || {
         format!(
-            "operation {} a {:08X} b {:08X} {:?}\n",
+            "operation {} a {:08X} b {:08X} {:?} bottom {bottom}\n",
             vector.operation, vector.a, vector.b, start.flags
         )
     };
@@ -39,17 +41,17 @@ fn check_vector(vector: &Vector) -> Check {
     expected.result = vec![1, CLOCKS];
     same(
         "run",
-        &proved::run(&memory, &[], &start, 1),
+        &proved::run(&memory, bottom, &[], &start, 1),
         &expected,
         case,
     )?;
 
     expected.result = vec![1, 0];
     expected.journal = vec![guard(); 2];
-    let proved = proved::file_run(&memory, 2, &start, 1);
+    let proved = proved::file_run(&memory, bottom, 2, &start, 1);
     same("file run", &proved, &expected, case)?;
 
-    let mut proved = proved::gate_run(&memory, &[], &GateState::start(start), CLOCKS);
+    let mut proved = proved::gate_run(&memory, bottom, &[], &GateState::start(start), CLOCKS);
     proved.words.truncate(expected.words.len());
     expected.result = vec![1];
     expected.journal.clear();

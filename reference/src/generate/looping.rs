@@ -19,8 +19,10 @@ pub fn looping_program(rng: &mut Rng) -> Program {
     let turns = (count - 1) / (AROUND_BODY + body as u32);
     // From 0 it would take 2^32 turns.
     let counter = if rng.one_in(4) { turns } else { 0 };
+    let memory = memory(rng, body, counter);
     Program {
-        memory: memory(rng, body, counter),
+        bottom: bottom(rng, code_length(body), memory.len()),
+        memory,
         waits: waits(rng, count as usize),
         start: Machine {
             registers: [0, rng.word(), rng.word(), rng.word(), 0, 0, 0, 0],
@@ -30,9 +32,24 @@ pub fn looping_program(rng: &mut Rng) -> Program {
     }
 }
 
+/// 0 every other time; else the code, to which nothing is stored, or more: some of the
+/// data and at times the counter, which then stands still.
+fn bottom(rng: &mut Rng, code: usize, length: usize) -> u32 {
+    match rng.below(4) {
+        0 | 1 => 0,
+        2 => code as u32,
+        _ => rng.between(code, length) as u32,
+    }
+}
+
+/// Words of the code with so many tame instructions.
+fn code_length(body: usize) -> usize {
+    2 * 4 + body + 6
+}
+
 /// The code with so many tame instructions, the data, and the counter.
 fn memory(rng: &mut Rng, body: usize, counter: u32) -> Vec<u32> {
-    let code = 2 * 4 + body + 6;
+    let code = code_length(body);
     // An instruction steps a pointer by two at most.
     let data = 4 * body + 1;
     let mut memory = Vec::with_capacity(code + data + 1);

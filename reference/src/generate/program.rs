@@ -1,8 +1,10 @@
-//! Programs with their memory, wait list, start and count.
+//! Programs with their memory, bottom, wait list, start and count.
 
+use super::bottom::bottom;
 use super::flags;
 use super::halting::halting_bits;
 use crate::instruction::{Instruction, Operand, HALTING_BITS};
+use crate::interpreter::step;
 use crate::machine::Machine;
 use crate::rng::Rng;
 
@@ -13,9 +15,21 @@ const WORDS_PER_HALTING: usize = 30;
 #[derive(Clone, Debug, PartialEq, Eq)]
 pub struct Program {
     pub memory: Vec<u32>,
+    /// No word below it changes (CR 6).
+    pub bottom: u32,
     pub waits: Vec<u16>,
     pub start: Machine,
     pub count: u32,
+}
+
+impl Program {
+    /// How many of the stores of its run are below its bottom.
+    pub fn stores_below_bottom(&self) -> usize {
+        let (mut memory, mut machine) = (self.memory.clone(), self.start);
+        let steps =
+            (0..self.count).map_while(|_| step(&mut memory, self.bottom, &mut machine).ok());
+        steps.filter(|step| step.below_bottom).count()
+    }
 }
 
 /// What a program is meant to provoke. Uniformly random words soon run outside,
@@ -64,10 +78,13 @@ pub fn program(rng: &mut Rng, kind: Kind) -> Program {
     };
     let memory = (0..length).map(|at| word(rng, kind, at, length)).collect();
     let count = rng.between(0, 20) as u32;
+    let waits = waits(rng, count as usize);
+    let start = start(rng, kind, length);
     Program {
         memory,
-        waits: waits(rng, count as usize),
-        start: start(rng, kind, length),
+        bottom: bottom(rng, length, &start.registers),
+        waits,
+        start,
         count,
     }
 }

@@ -60,7 +60,13 @@ impl Prefix {
 
 fn prefix(program: &Program, count: u32) -> Prefix {
     let mut memory = program.memory.clone();
-    let result = run(&mut memory, &program.waits, program.start, count);
+    let result = run(
+        &mut memory,
+        program.bottom,
+        &program.waits,
+        program.start,
+        count,
+    );
     Prefix { result, memory }
 }
 
@@ -81,7 +87,7 @@ pub fn check_agreement(program: &Program, latches: GateState, extra: u64) {
         }
         let may_go_on = last.answer == Answer::Finished;
         assert!(may_go_on || finished <= last.ran.into(), "{program:X?}");
-        finished += gate_clock(&mut memory, &program.waits, &mut state).unwrap();
+        finished += gate_clock(&mut memory, program.bottom, &program.waits, &mut state).unwrap();
     }
     if let Answer::Stopped(stop) = last.answer {
         check_never_more(program, latches, &prefixes[prefixes.len() - 1], stop);
@@ -93,7 +99,7 @@ pub fn check_agreement(program: &Program, latches: GateState, extra: u64) {
 fn check_never_more(program: &Program, latches: GateState, last: &Prefix, stop: Stop) {
     let mut memory = program.memory.clone();
     let state = gate_start(program.start, latches);
-    let result = gate_run(&mut memory, &program.waits, state, u64::MAX);
+    let result = gate_run(&mut memory, program.bottom, &program.waits, state, u64::MAX);
     assert_eq!(result.answer, Ok(()));
     assert_eq!(result.finished, u64::from(last.result.ran), "{program:X?}");
     assert_eq!(memory, last.memory, "{program:X?}");

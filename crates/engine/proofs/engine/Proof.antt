@@ -4,17 +4,18 @@ use native.Mathlib.Omega.{arith}
 use borrow.Author.Tests.{not-true, not-false}
 use borrow.Author.Needs.{needs}
 use Rattle.model.specs.Waits.{waitAt}
+use Rattle.model.specs.Board.{boardWith}
 use Rattle.model.specs.Packed.{packedMachine}
 use Rattle.engine.proofs.Turns.{At, begins, from-start, clocks-fit, turn, stopped, finished}
 use Rattle.engine.proofs.engine.Statement.{statement}
 use Rattle.engine.proofs.engine.Tie as tie
 
 abbrev Inv-loop : tie.InvT-loop
-Inv-loop memory₀ waits journal₀ count regs₀ flags₀ position₀ clocks₀ pairs₀ i₀ memory journal regs flags position clocks pairs i =
-    At memory₀ waits journal₀ (packedMachine regs₀ flags₀) count memory journal regs flags position clocks pairs i
+Inv-loop memory₀ bottom waits journal₀ count regs₀ flags₀ position₀ clocks₀ pairs₀ i₀ memory journal regs flags position clocks pairs i =
+    At memory₀ (boardWith bottom waits) journal₀ (packedMachine regs₀ flags₀) count memory journal regs flags position clocks pairs i
 
 abbrev μ-loop : tie.MeasureT-loop
-μ-loop memory₀ waits journal₀ count regs₀ flags₀ position₀ clocks₀ pairs₀ i₀ memory journal regs flags position clocks pairs i = count - i
+μ-loop memory₀ bottom waits journal₀ count regs₀ flags₀ position₀ clocks₀ pairs₀ i₀ memory journal regs flags position clocks pairs i = count - i
 
 -- the count has 32 bits
 few-at : (t : tie.In-loop Inv-loop μ-loop) → t .before .before .before .before .before .before .before .before .args .count < 2 ^ 32
@@ -50,7 +51,7 @@ same-length c =
 same-length-2 : tie.Need-same-length-2 Inv-loop μ-loop
 same-length-2 c =
     let stepped = c .before .before .before .before .before .before .before in
-    stepped .step .kept .1 .1 .0 ∙ stepped .before .before .before .before .before .loop .inv .places
+    stepped .step .kept .1 .1 .1 .0 ∙ stepped .before .before .before .before .before .loop .inv .places
 
 returns : tie.Need-returns Inv-loop μ-loop
 returns c =
@@ -76,7 +77,7 @@ loop-again c =
     let stepped = c .before .before .before .before .before .before .before in
     let entered = stepped .before .before .before .before in
     turn (entered .before .loop .inv) (entered .loop-test .taken) (stepped .step .ensures)
-    (sym (c .before .before .goes-on .ensures) ∙ not-false _ (c .before .if1 .left)) (c .clocked .ensures) (few-at entered) (stepped .step .kept .1 .0) (stepped .step .kept .1 .1 .0)
+    (sym (c .before .before .goes-on .ensures) ∙ not-false _ (c .before .if1 .left)) (c .clocked .ensures) (few-at entered) (stepped .step .kept .1 .0) (stepped .step .kept .1 .1 .1 .0)
 
 run-end-requires-2 : tie.Need-run-end-requires-2 Inv-loop μ-loop
 run-end-requires-2 c κs = search needs

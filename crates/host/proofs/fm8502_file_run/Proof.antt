@@ -10,7 +10,7 @@ same-length : tie.Need-same-length
 same-length c = search needs
 
 returns : tie.Need-returns
-returns c = file-misfit _ _ _ _ _ _ (c .before .before .machine-lent .ensures) (c .if1 .taken)
+returns c = file-misfit _ _ _ _ _ _ _ (c .before .before .machine-lent .ensures) (c .if1 .taken)
 
 file-run-requires : tie.Need-file-run-requires
 file-run-requires c κs = search needs
@@ -35,7 +35,7 @@ returns-2 c =
     let ended = c .before .before .before .before in
     let called = ended .before .before .before .before .before .before .before in
     let tested = called .before .before .before in
-    file-formed _ _ _ _ _ _ (tested .before .before .machine-lent .ensures) (tested .if1 .left) _ _ _ (called .file-run .ensures) _ _ _ (ended .end-file-run .ensures)
+    file-formed _ _ _ _ _ _ _ (tested .before .before .machine-lent .ensures) (tested .if1 .left) _ _ _ (called .file-run .ensures) _ _ _ (ended .end-file-run .ensures)
 
 pub fm8502-file-run-spec : {M : Type 1} → statement M
 fm8502-file-run-spec =

@@ -6,6 +6,9 @@ use Rattle.verdicts.proofs.gate_verdict.Tie as tie
 memory-fits-requires : tie.Need-memory-fits-requires
 memory-fits-requires c κs = search needs
 
+bottom-fits-requires : tie.Need-bottom-fits-requires
+bottom-fits-requires c κs = search needs
+
 waits-fit-requires : tie.Need-waits-fit-requires
 waits-fit-requires c κs = search needs
 
@@ -18,17 +21,31 @@ then-requires c κs = search needs
 then-requires-2 : tie.Need-then-requires-2
 then-requires-2 c κs = search needs
 
+then-requires-3 : tie.Need-then-requires-3
+then-requires-3 c κs = search needs
+
 returns : tie.Need-returns
 unfolding gateVerdict
-returns c = rw (c .then2 .ensures, c .before .then .ensures, c .before .before .before .before .memory-fits .ensures, c .before .before .before .waits-fit .ensures, c .before .before .state-fits .ensures)
+returns c =
+    rw (
+      c .then3 .ensures,
+      c .before .then2 .ensures,
+      c .before .before .then .ensures,
+      c .before .before .before .before .before .before .memory-fits .ensures,
+      c .before .before .before .before .before .bottom-fits .ensures,
+      c .before .before .before .before .waits-fit .ensures,
+      c .before .before .before .state-fits .ensures,
+    )
 
 pub gate-verdict-spec : {M : Type 1} → statement M
 gate-verdict-spec =
     tie.close
     (tie.spec
     memory-fits-requires
+    bottom-fits-requires
     waits-fit-requires
     state-fits-requires
     then-requires
     then-requires-2
+    then-requires-3
     returns)

@@ -5,10 +5,10 @@ use Rattle.crosscheck.proofs.lending.clock_by_clock.Statement.{statemen
 use Rattle.crosscheck.proofs.lending.clock_by_clock.Tie as tie
 
 abbrev Inv-loop : tie.InvT-loop
-Inv-loop memory₀ waits clocks result₀ left₀ memory result left = length memory ≡ length memory₀
+Inv-loop memory₀ bottom waits clocks result₀ left₀ memory result left = length memory ≡ length memory₀
 
 abbrev μ-loop : tie.MeasureT-loop
-μ-loop memory₀ waits clocks result₀ left₀ memory result left = left
+μ-loop memory₀ bottom waits clocks result₀ left₀ memory result left = left
 
 loop-holds : tie.Need-loop-holds Inv-loop μ-loop
 loop-holds c = search needs

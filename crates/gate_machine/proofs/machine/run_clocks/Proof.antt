@@ -4,6 +4,7 @@ use native.Mathlib.Omega.{arith}
 use lib.ListN.{length}
 use borrow.Author.Needs.{needs}
 use Rattle.arithmetic.proofs.Bits.{bit-le}
+use Rattle.model.specs.Board.{boardWith}
 use Rattle.model.specs.GateMachine.{gate, gateRun}
 use Rattle.model.specs.Agreement.{gateFrom}
 use Rattle.model.proofs.Valid.{short, row-there}
@@ -14,11 +15,11 @@ use Rattle.gate_machine.proofs.machine.run_clocks.Statement.{statement}
 use Rattle.gate_machine.proofs.machine.run_clocks.Tie as tie
 
 abbrev Inv-loop : tie.InvT-loop
-Inv-loop memory₀ waits clocks table regs₀ s₀ finished₀ i₀ memory regs s finished i =
-    (i ≤ clocks) × (length memory ≡ length memory₀) × (gate (stateOf regs s) memory finished ≡ gateRun waits i (gateFrom (stateOf regs₀ s₀) memory₀))
+Inv-loop memory₀ bottom waits clocks table regs₀ s₀ finished₀ i₀ memory regs s finished i =
+    (i ≤ clocks) × (length memory ≡ length memory₀) × (gate (stateOf regs s) memory finished ≡ gateRun (boardWith bottom waits) i (gateFrom (stateOf regs₀ s₀) memory₀))
 
 abbrev μ-loop : tie.MeasureT-loop
-μ-loop memory₀ waits clocks table regs₀ s₀ finished₀ i₀ memory regs s finished i = clocks - i
+μ-loop memory₀ bottom waits clocks table regs₀ s₀ finished₀ i₀ memory regs s finished i = clocks - i
 
 -- the row that the loop has come to is one of the table
 row-at : (l : tie.At-loop Inv-loop μ-loop) → l .loop .s .row < 13

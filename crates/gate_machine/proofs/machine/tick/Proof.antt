@@ -1,5 +1,6 @@
 use borrow.Author.Tests.{not-true, not-false}
 use borrow.Author.Needs.{needs}
+use Rattle.model.specs.Board.{boardWith}
 use Rattle.gate_machine.proofs.Turns.{waits-on, works-on}
 use Rattle.gate_machine.proofs.machine.tick.Statement.{statement}
 use Rattle.gate_machine.proofs.machine.tick.Tie as tie
@@ -11,7 +12,7 @@ returns : tie.Need-returns
 returns c =
     let start = c .before .before .before .before .before in
     let args = start .args in
-    waits-on (args .waits .now) (args .s) (args .regs .now) (args .memory .now) (args .step) (start .pre .0)
+    waits-on (boardWith (args .bottom) (args .waits .now)) (args .s) (args .regs .now) (args .memory .now) (args .step) (start .pre .0)
     (c .before .before .granted .ensures) (not-true _ (c .if1 .taken))
 
 work-requires : tie.Need-work-requires
@@ -25,7 +26,7 @@ returns-2 c =
     let left = c .before .before .before .before .before in
     let start = left .before .before .before .before .before in
     let args = start .args in
-    works-on (args .waits .now) (args .s) (args .regs .now) (args .memory .now) (args .step) (start .pre .0)
+    works-on (boardWith (args .bottom) (args .waits .now)) (args .s) (args .regs .now) (args .memory .now) (args .step) (start .pre .0)
     (left .before .before .granted .ensures) (not-false _ (left .if1 .left)) (c .before .before .work .ensures)
 
 pub tick-spec : {M : Type 1} → statement M

@@ -67,11 +67,8 @@ set-register-requires c κs = search needs
 moved-requires-2 : tie.Need-moved-requires-2
 moved-requires-2 c κs = search needs
 
-cast-store : tie.Need-cast-store
-cast-store c = search needs
-
-store-requires : tie.Need-store-requires
-store-requires c κs = search needs
+store-above-requires : tie.Need-store-above-requires
+store-above-requires c κs = search needs
 
 moved-requires-3 : tie.Need-moved-requires-3
 moved-requires-3 c κs = search needs
@@ -146,8 +143,8 @@ same-length-4 c = search needs
 
 returns-10 : tie.Need-returns-10
 returns-10 c =
-    by 9 (c .before .before .before .before .before .before .match .keys10) (c .moved3 .ensures _)
-    (c .before .before .before .store .ensures)
+    by 9 (c .before .before .before .before .before .match .keys10) (c .moved3 .ensures _)
+    (c .before .before .before .store-above .ensures .words)
 
 returns-11 : tie.Need-returns-11
 returns-11 c =
@@ -190,8 +187,7 @@ work-spec =
     operand-b-requires-2
     set-register-requires
     moved-requires-2
-    cast-store
-    store-requires
+    store-above-requires
     moved-requires-3
     operand-a-requires-2
     step-up-requires

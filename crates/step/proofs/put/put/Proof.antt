@@ -11,11 +11,8 @@ returns c = puts-none (not-true _ (c .if1 .taken))
 in-memory-requires : tie.Need-in-memory-requires
 in-memory-requires c κs = search needs
 
-cast-store : tie.Need-cast-store
-cast-store c = search needs
-
-store-requires : tie.Need-store-requires
-store-requires c κs = search needs
+store-above-requires : tie.Need-store-above-requires
+store-above-requires c κs = search needs
 
 note-requires : tie.Need-note-requires
 note-requires c κs = search needs
@@ -28,10 +25,11 @@ same-length-2 c = search needs
 
 returns-2 : tie.Need-returns-2
 returns-2 c =
-    let stored = c .before .before .before .before .before .before in
-    let there = stored .before .before .before in
+    let noted = c .before .before in
+    let stored = noted .before .before .before .before in
+    let there = stored .before .before in
     puts-memory (not-false _ (there .before .before .if1 .left)) (sym (there .before .in-memory .ensures) ∙ there .if2 .taken)
-    (stored .store .ensures) (c .before .before .note .ensures)
+    (stored .store-above .ensures) (noted .note .ensures)
 
 set-register-requires : tie.Need-set-register-requires
 set-register-requires c κs = search needs
@@ -48,8 +46,7 @@ put-spec =
     (tie.spec
     returns
     in-memory-requires
-    cast-store
-    store-requires
+    store-above-requires
     note-requires
     same-length
     same-length-2

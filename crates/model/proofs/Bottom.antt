@@ -1,0 +1,259 @@
+-- CR 6: the bottom of memory is kept, and where nothing is stored below it the engines do what they do with the bottom at 0.
+use Prim.Native.Nat.{ℕ, zero, suc}
+use mathlib.Core.Path.{_≡_, refl, sym, ap, ap₂, _∙_}
+use mathlib.Core.Bool.{Bool, true, false, not, cond, _&&_, true≢false}
+use mathlib.Core.List.{List, _++_}
+use lib.Dec.{eqb, leb·zero}
+use lib.ListN.{length, getD, take}
+use lib.Seq.{take-set-le}
+use borrow.Author.Tests.{leb-true, lt-leb, eqb-true}
+use Rattle.model.specs.declared.GateState.{GateState}
+use Rattle.model.specs.declared.Machine.{Machine}
+use Rattle.model.specs.declared.Verdict.{Verdict}
+use Rattle.model.specs.declared.Verdict.the-variants.{Accepted}
+use Rattle.model.specs.Words.{present, storeWord, alterable, storeAbove}
+use Rattle.model.specs.Operands.{inMemory}
+use Rattle.model.specs.Board.{Board}
+use Rattle.model.specs.Interpreter as I
+use Rattle.model.specs.Journal.{Pair, storedBy, journalPairs}
+use Rattle.model.specs.GateMachine.{Gate, gate, withRow, rows, work, isAccess, remaining, positionNow, workOrWait, clock, gateRun}
+use Rattle.model.specs.Refusals.{_then_, memoryFits, bottomFits, waitsFit, stateFits, journalFits, runVerdict, fileVerdict, gateVerdict}
+use Rattle.model.specs.Bottom.{MemoryFirst, BottomNext, RunKeepsBottom, GateKeepsBottom, LevelStores, storesBelow, neverStoresBelow, clockStoresBelow, noClockStoresBelow, level, RunAsLevel, GateAsLevel, NeverAsLevel, NoClockAsLevel, AcceptedAsLevel}
+use Rattle.model.proofs.Cases.{pick, Each, past, _▸_}
+use Rattle.model.proofs.Runs.{one-more}
+use Rattle.model.proofs.Clocks.{accessOver, one-clock}
+use Rattle.model.proofs.Verdicts.{both}
+
+-- ---- 21 directly after 2
+
+pub memory-first : MemoryFirst
+unfolding runVerdict fileVerdict gateVerdict
+memory-first memory board why e = record { run = rw e; file = λ journal n. rw e; gate = λ s. rw e }
+
+pub bottom-next : BottomNext
+unfolding runVerdict fileVerdict gateVerdict
+bottom-next memory board e h =
+    let high = lt-leb (board .bottom) (length memory) h in
+    record { run = rw (e, high); file = λ journal n. rw (e, high); gate = λ s. rw (e, high) }
+
+-- ---- the bottom is kept
+
+store-keeps : (bottom : ℕ) (memory : List ℕ) (address word : ℕ) → take bottom (storeAbove bottom memory address word) ≡ take bottom memory
+store-keeps bottom memory address word = go (alterable bottom address) refl
+  where
+    go : (t : Bool) → alterable bottom address ≡ t → take bottom (cond t (storeWord memory address word) memory) ≡ take bottom memory
+    go true e = take-set-le bottom memory address word (leb-true bottom address e)
+    go false e = refl
+
+module _ (board : Board) where
+  abbrev Kept : List ℕ → List ℕ → Type 0
+  Kept former memory = take (board .bottom) memory ≡ take (board .bottom) former
+
+  advance-keeps : (r : I.Run) → Kept (r .memory) (I.advance board r .memory)
+  unfolding I.execute I.stop
+  advance-keeps r =
+      let memory = r .memory in
+      let m = r .machine in
+      one-more board (λ (x : I.Run). Kept memory (x .memory)) r
+      (λ _ _.
+      pick (Kept memory) (I.isStored memory m)
+      (pick (Kept memory) (inMemory (I.opB memory m)) (store-keeps (board .bottom) memory (I.addressB memory m) (I.aluOut memory m .result)) refl)
+      refl)
+      (λ _ _. refl)
+      (λ _. refl)
+
+  rows-keep : (g : Gate) → Each (λ r. Kept (g .memory) (getD (rows (board .bottom)) r (λ h. h) g .memory))
+  rows-keep g =
+      refl ▸ refl ▸ refl ▸ refl ▸ refl ▸ refl ▸ refl ▸ refl ▸ refl
+      ▸ store-keeps (board .bottom) (g .memory) (g .state .address) (g .state .result)
+      ▸ refl ▸ refl ▸ refl
+      ▸ past (λ r. refl)
+
+  clock-keeps : (g : Gate) → Kept (g .memory) (clock board g .memory)
+  unfolding clock work
+  clock-keeps g =
+      one-clock board g (λ (c : Gate → Gate). Kept (g .memory) (c g .memory))
+      (λ _ _ _. rows-keep (accessOver board g g) .at (g .state .row))
+      (λ _ _ w _. refl)
+      (λ _ _. refl)
+      (λ _. rows-keep g .at (g .state .row))
+
+pub run-keeps-bottom : RunKeepsBottom
+unfolding I.interpret
+run-keeps-bottom board zero r = refl
+run-keeps-bottom board (suc n) r = advance-keeps board (I.interpret board n r) ∙ run-keeps-bottom board n r
+
+pub gate-keeps-bottom : GateKeepsBottom
+unfolding gateRun
+gate-keeps-bottom board zero g = refl
+gate-keeps-bottom board (suc k) g = clock-keeps board (gateRun board k g) ∙ gate-keeps-bottom board k g
+
+-- ---- as with the bottom at 0
+
+-- what never happened before and does not now
+never-now : (before now : Bool) → (before && not now) ≡ true → (before ≡ true) × (now ≡ false)
+never-now true true e = absurd (true≢false (sym e))
+never-now true false e = (refl, refl)
+never-now false now e = absurd (true≢false (sym e))
+
+-- two truths that are the same where a first one holds
+where-true : (t : Bool) {x y : Bool} → (t ≡ true → x ≡ y) → (t && x) ≡ (t && y)
+where-true true h = h refl
+where-true false h = refl
+
+pub level-stores : LevelStores
+level-stores memory address word = rw (leb·zero address)
+
+module _ {A : Type 0} where
+  -- a store that is not below the bottom, of a result that is stored, to an operand in memory
+  same-store : (stored mem above : Bool) (x y : A) → (stored && mem && not above) ≡ false
+      → cond stored (cond mem (cond above x y) y) y ≡ cond stored (cond mem x y) y
+  same-store true true true x y h = refl
+  same-store true true false x y h = absurd (true≢false h)
+  same-store true false above x y h = refl
+  same-store false mem above x y h = refl
+
+same-pair : (goes stored above : Bool) → (goes && stored && not above) ≡ false → (goes && (stored && above)) ≡ (goes && (stored && true))
+same-pair true true true h = refl
+same-pair true true false h = absurd (true≢false h)
+same-pair true false above h = refl
+same-pair false stored above h = refl
+
+module _ (board : Board) where
+  module _ (r : I.Run) where
+    abbrev memory : List ℕ
+    memory = r .memory
+
+    abbrev m : Machine
+    m = r .machine
+
+    -- its store, if it has one to memory, is below the bottom
+    abbrev below : Bool
+    below = I.storesToMemory memory m && not (alterable (board .bottom) (I.addressB memory m))
+
+    memory-level : below ≡ false → I.nextMemory memory m (board .bottom) ≡ I.nextMemory memory m 0
+    memory-level h =
+        rw (leb·zero (I.addressB memory m))
+        (same-store (I.isStored memory m) (inMemory (I.opB memory m)) (alterable (board .bottom) (I.addressB memory m)) (storeWord memory (I.addressB memory m) (I.aluOut memory m .result)) memory h)
+
+    execute-level : below ≡ false → I.execute board r ≡ I.execute (level board) r
+    unfolding I.execute
+    execute-level h =
+        let x = I.execute board r in
+        ap (λ (l : List ℕ). record { machine = x .machine; memory = l; position = x .position; ran = x .ran; clocks = x .clocks; ending = x .ending }) (memory-level h)
+
+    advance-level : storesBelow (board .bottom) r ≡ false → I.advance board r ≡ I.advance (level board) r
+    unfolding I.advance
+    advance-level h = go (I.goesOn (r .ending)) (I.nextRuns memory m) h
+      where
+        go : (a c : Bool) → (a && c && I.storesToMemory memory m && not (alterable (board .bottom) (I.addressB memory m))) ≡ false
+            → cond a (cond c (I.execute board r) (I.stop (I.nextEnding memory m) r)) r ≡ cond a (cond c (I.execute (level board) r) (I.stop (I.nextEnding memory m) r)) r
+        go true true h = execute-level h
+        go true false h = refl
+        go false c h = refl
+
+    stored-level : storesBelow (board .bottom) r ≡ false → storedBy (board .bottom) r ≡ storedBy 0 r
+    unfolding storedBy
+    stored-level h = rw (leb·zero (I.addressB memory m), same-pair (I.goesOn (r .ending) && I.nextRuns memory m) (I.storesToMemory memory m) (alterable (board .bottom) (I.addressB memory m)) h)
+
+pub run-as-level : RunAsLevel
+unfolding I.interpret journalPairs neverStoresBelow
+run-as-level board zero r h = record { run = refl; pairs = refl }
+run-as-level board (suc n) r h =
+    let last = I.interpret board n r in
+    let (never, now) = never-now (neverStoresBelow (board .bottom) board n r) (storesBelow (board .bottom) last) h in
+    let before = run-as-level board n r never in
+    record {
+      run = advance-level board last now ∙ ap (I.advance (level board)) (before .run);
+      pairs = ap₂ (λ (x y : List Pair). x ++ y) (before .pairs) (stored-level board last now ∙ ap (storedBy 0) (before .run));
+    }
+
+pub never-as-level : NeverAsLevel
+unfolding neverStoresBelow
+never-as-level board zero r = refl
+never-as-level board (suc n) r =
+    let bottom = board .bottom in
+    where-true (neverStoresBelow bottom board n r) (λ e. ap (λ (x : I.Run). not (storesBelow bottom x)) (run-as-level board n r e .run))
+    ∙ ap (λ (t : Bool). t && not (storesBelow bottom (I.interpret (level board) n r))) (never-as-level board n r)
+
+module _ (board : Board) (g : Gate) where
+  abbrev s : GateState
+  s = g .state
+
+  -- rows differ in row 9 alone
+  rows-level : Each (λ r. (eqb r 9 && not (alterable (board .bottom) (s .address))) ≡ false → getD (rows (board .bottom)) r (λ h. h) g ≡ getD (rows 0) r (λ h. h) g)
+  rows-level =
+      (λ _. refl) ▸ (λ _. refl) ▸ (λ _. refl) ▸ (λ _. refl) ▸ (λ _. refl) ▸ (λ _. refl) ▸ (λ _. refl) ▸ (λ _. refl) ▸ (λ _. refl)
+      ▸ (λ h. rw (leb·zero (s .address)) (ap (λ (l : List ℕ). gate (withRow 10 s) l (g .finished)) (same-store true true (alterable (board .bottom) (s .address)) (storeWord (g .memory) (s .address) (s .result)) (g .memory) h)))
+      ▸ (λ _. refl) ▸ (λ _. refl) ▸ (λ _. refl)
+      ▸ past (λ r _. refl)
+
+  work-level : (eqb (s .row) 9 && not (alterable (board .bottom) (s .address))) ≡ false → work (board .bottom) g ≡ work 0 g
+  unfolding work
+  work-level h = rows-level .at (s .row) h
+
+nine-access : isAccess 9 ≡ true
+unfolding isAccess
+nine-access = refl
+
+clock-level : (board : Board) (g : Gate) → clockStoresBelow (board .bottom) board g ≡ false → clock board g ≡ clock (level board) g
+unfolding clock workOrWait
+clock-level board g h = go (isAccess (g .state .row)) refl (present (g .memory) (g .state .address)) (remaining waits (g .state)) h
+  where
+    waits : List ℕ
+    waits = board .waits
+
+    p : ℕ
+    p = positionNow waits (g .state)
+
+    below : Bool
+    below = not (alterable (board .bottom) (g .state .address))
+
+    -- on the last clock of an access that is acknowledged
+    now : (nine : Bool) → (nine && true && true && below) ≡ false → (nine && below) ≡ false
+    now true e = e
+    now false e = refl
+
+    -- row 9 is an access
+    elsewhere : (nine : Bool) → eqb (g .state .row) 9 ≡ nine → isAccess (g .state .row) ≡ false → (nine && below) ≡ false
+    elsewhere true e f = absurd (true≢false (sym nine-access ∙ ap isAccess (sym (eqb-true _ 9 e)) ∙ f))
+    elsewhere false e f = refl
+
+    go : (a : Bool) → isAccess (g .state .row) ≡ a → (t : Bool) → (w : ℕ) → (eqb (g .state .row) 9 && t && eqb w 0 && below) ≡ false
+        → cond a (cond t (workOrWait (board .bottom) w p g) g) (work (board .bottom) g) ≡ cond a (cond t (workOrWait 0 w p g) g) (work 0 g)
+    go true a true zero e = work-level board (accessOver board g g) (now (eqb (g .state .row) 9) e)
+    go true a true (suc w) e = refl
+    go true a false w e = refl
+    go false a t w e = work-level board g (elsewhere (eqb (g .state .row) 9) refl a)
+
+pub gate-as-level : GateAsLevel
+unfolding gateRun noClockStoresBelow
+gate-as-level board zero g h = refl
+gate-as-level board (suc k) g h =
+    let last = gateRun board k g in
+    let (never, now) = never-now (noClockStoresBelow (board .bottom) board k g) (clockStoresBelow (board .bottom) board last) h in
+    clock-level board last now ∙ ap (clock (level board)) (gate-as-level board k g never)
+
+pub no-clock-as-level : NoClockAsLevel
+unfolding noClockStoresBelow
+no-clock-as-level board zero g = refl
+no-clock-as-level board (suc k) g =
+    let bottom = board .bottom in
+    where-true (noClockStoresBelow bottom board k g) (λ e. ap (λ (x : Gate). not (clockStoresBelow bottom board x)) (gate-as-level board k g e))
+    ∙ ap (λ (t : Bool). t && not (clockStoresBelow bottom (level board) (gateRun (level board) k g))) (no-clock-as-level board k g)
+
+-- a bottom of 0 is never too high
+level-fits : (memory : List ℕ) (bottom : ℕ) (rest : Verdict) → (memoryFits memory then bottomFits memory bottom then rest) ≡ Accepted
+    → (memoryFits memory then bottomFits memory 0 then rest) ≡ Accepted
+level-fits memory bottom rest e =
+    let (m, br) = both (memoryFits memory) (bottomFits memory bottom then rest) e in
+    rw (m, leb·zero (length memory)) (both (bottomFits memory bottom) rest br .1)
+
+pub accepted-as-level : AcceptedAsLevel
+unfolding runVerdict fileVerdict gateVerdict
+accepted-as-level memory board =
+    record {
+      run = level-fits memory (board .bottom) (waitsFit (board .waits));
+      file = λ journal n. level-fits memory (board .bottom) (journalFits journal n);
+      gate = λ s. level-fits memory (board .bottom) (waitsFit (board .waits) then stateFits (board .waits) s);
+    }

@@ -1,0 +1,108 @@
+-- CR 6: when a bottom is turned down, what the bottom of memory keeps, and that it changes nothing else: where nothing is stored below it, a
+-- run, a file run and a gate run do what they do with the bottom at 0.
+use Prim.Native.Nat.{ℕ, zero, suc, _<_}
+use mathlib.Core.Path.{_≡_}
+use mathlib.Core.Bool.{Bool, true, not, _&&_}
+use mathlib.Core.List.{List}
+use lib.Dec.{eqb}
+use lib.ListN.{length, take}
+use Rattle.model.specs.declared.GateState.{GateState}
+use Rattle.model.specs.declared.Refusal.{Refusal}
+use Rattle.model.specs.declared.Refusal.the-variants.{BottomTooHigh}
+use Rattle.model.specs.declared.Verdict.{Verdict}
+use Rattle.model.specs.declared.Verdict.the-variants.{Accepted, Refused}
+use Rattle.model.specs.Words.{present, storeWord, alterable, storeAbove}
+use Rattle.model.specs.Board.{Board, boardWith}
+use Rattle.model.specs.Interpreter.{goesOn, addressB, nextRuns, storesToMemory, Run, interpret}
+use Rattle.model.specs.Journal.{journalPairs}
+use Rattle.model.specs.GateMachine.{Gate, remaining, gateRun}
+use Rattle.model.specs.Refusals.{memoryFits, runVerdict, fileVerdict, gateVerdict}
+
+-- ---- 21 directly after 2
+
+-- every kind of run under the board is judged so, whatever its list, state, journal and count
+pub record Judged (memory : List ℕ) (board : Board) (v : Verdict) : Type 0 where
+  pub run : runVerdict memory board ≡ v
+  pub file : (journal : List ℕ) (n : ℕ) → fileVerdict memory (board .bottom) journal n ≡ v
+  pub gate : (s : GateState) → gateVerdict memory board s ≡ v
+
+abbrev pub MemoryFirst : Type 0
+MemoryFirst = (memory : List ℕ) (board : Board) (why : Refusal) → memoryFits memory ≡ Refused why → Judged memory board (Refused why)
+
+abbrev pub BottomNext : Type 0
+BottomNext =
+    (memory : List ℕ) (board : Board) → memoryFits memory ≡ Accepted → length memory < board .bottom → Judged memory board (Refused BottomTooHigh)
+
+-- ---- neither engine alters the words below the bottom
+
+abbrev pub RunKeepsBottom : Type 0
+RunKeepsBottom = (board : Board) (n : ℕ) (r : Run) → take (board .bottom) (interpret board n r .memory) ≡ take (board .bottom) (r .memory)
+
+abbrev pub GateKeepsBottom : Type 0
+GateKeepsBottom = (board : Board) (k : ℕ) (g : Gate) → take (board .bottom) (gateRun board k g .memory) ≡ take (board .bottom) (g .memory)
+
+-- ---- "never stores below P"
+
+-- the next instruction runs, and stores to memory below the bottom
+abbrev pub storesBelow : (bottom : ℕ) → Run → Bool
+storesBelow bottom r =
+    let memory = r .memory in
+    let m = r .machine in
+    goesOn (r .ending) && nextRuns memory m && storesToMemory memory m && not (alterable bottom (addressB memory m))
+
+-- none of n instructions does, run on a board
+unfoldable pub neverStoresBelow : (bottom : ℕ) → Board → ℕ → Run → Bool
+neverStoresBelow bottom board zero r = true
+neverStoresBelow bottom board (suc n) r = neverStoresBelow bottom board n r && not (storesBelow bottom (interpret board n r))
+
+-- the next clock completes row 9, at an address below the bottom
+abbrev pub clockStoresBelow : (bottom : ℕ) → Board → Gate → Bool
+clockStoresBelow bottom board g =
+    let s = g .state in
+    eqb (s .row) 9 && present (g .memory) (s .address) && eqb (remaining (board .waits) s) 0 && not (alterable bottom (s .address))
+
+-- none of k clocks does
+unfoldable pub noClockStoresBelow : (bottom : ℕ) → Board → ℕ → Gate → Bool
+noClockStoresBelow bottom board zero g = true
+noClockStoresBelow bottom board (suc k) g = noClockStoresBelow bottom board k g && not (clockStoresBelow bottom board (gateRun board k g))
+
+-- ---- as with the bottom at 0
+
+-- 0 is the old machine: every store is one of document 01
+abbrev pub LevelStores : Type 0
+LevelStores = (memory : List ℕ) (address word : ℕ) → storeAbove 0 memory address word ≡ storeWord memory address word
+
+-- the board with its bottom at 0
+abbrev pub level : Board → Board
+level board = boardWith 0 (board .waits)
+
+-- run and file run: the same machine, memory, position, counts and ending, and the same journal
+pub record SameRun (board : Board) (n : ℕ) (r : Run) : Type 0 where
+  pub run : interpret board n r ≡ interpret (level board) n r
+  pub pairs : journalPairs board n r ≡ journalPairs (level board) n r
+
+abbrev pub RunAsLevel : Type 0
+RunAsLevel = (board : Board) (n : ℕ) (r : Run) → neverStoresBelow (board .bottom) board n r ≡ true → SameRun board n r
+
+-- gate run: the same state, memory and count
+abbrev pub GateAsLevel : Type 0
+GateAsLevel =
+    (board : Board) (k : ℕ) (g : Gate) → noClockStoresBelow (board .bottom) board k g ≡ true → gateRun board k g ≡ gateRun (level board) k g
+
+-- whether a program stores below the bottom is the same with the bottom in force and with the bottom at 0
+abbrev pub NeverAsLevel : Type 0
+NeverAsLevel =
+    (board : Board) (n : ℕ) (r : Run) → neverStoresBelow (board .bottom) board n r ≡ neverStoresBelow (board .bottom) (level board) n r
+
+abbrev pub NoClockAsLevel : Type 0
+NoClockAsLevel =
+    (board : Board) (k : ℕ) (g : Gate) → noClockStoresBelow (board .bottom) board k g ≡ noClockStoresBelow (board .bottom) (level board) k g
+
+-- what is not turned down with a bottom is not turned down with the bottom at 0
+pub record LevelAccepted (memory : List ℕ) (board : Board) : Type 0 where
+  pub run : runVerdict memory board ≡ Accepted → runVerdict memory (level board) ≡ Accepted
+  pub file : (journal : List ℕ) (n : ℕ) → fileVerdict memory (board .bottom) journal n ≡ Accepted → fileVerdict memory 0 journal n ≡ Accepted
+  pub gate : (s : GateState) → gateVerdict memory board s ≡ Accepted → gateVerdict memory (level board) s ≡ Accepted
+
+abbrev pub AcceptedAsLevel : Type 0
+AcceptedAsLevel = (memory : List ℕ) (board : Board) → LevelAccepted memory board
