@@ -20,14 +20,7 @@ then-requires-2 c κs = search needs
 
 returns : tie.Need-returns
 unfolding fileVerdict
-returns c =
-    rw (
-      c .then2 .ensures,
-      c .before .then .ensures,
-      c .before .before .before .before .memory-fits .ensures,
-      c .before .before .before .bottom-fits .ensures,
-      c .before .before .journal-fits .ensures,
-    )
+returns c = cc
 
 pub file-verdict-spec : {M : Type 1} → statement M
 file-verdict-spec =

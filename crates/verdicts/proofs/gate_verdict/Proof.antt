@@ -26,16 +26,7 @@ then-requires-3 c κs = search needs
 
 returns : tie.Need-returns
 unfolding gateVerdict
-returns c =
-    rw (
-      c .then3 .ensures,
-      c .before .then2 .ensures,
-      c .before .before .then .ensures,
-      c .before .before .before .before .before .before .memory-fits .ensures,
-      c .before .before .before .before .before .bottom-fits .ensures,
-      c .before .before .before .before .waits-fit .ensures,
-      c .before .before .before .state-fits .ensures,
-    )
+returns c = cc
 
 pub gate-verdict-spec : {M : Type 1} → statement M
 gate-verdict-spec =

@@ -20,14 +20,7 @@ then-requires-2 c κs = search needs
 
 returns : tie.Need-returns
 unfolding runVerdict
-returns c =
-    rw (
-      c .then2 .ensures,
-      c .before .then .ensures,
-      c .before .before .before .before .memory-fits .ensures,
-      c .before .before .before .bottom-fits .ensures,
-      c .before .before .waits-fit .ensures,
-    )
+returns c = cc
 
 pub run-verdict-spec : {M : Type 1} → statement M
 run-verdict-spec =
