@@ -18,7 +18,7 @@ use Rattle.model.specs.Interpreter as I
 use Rattle.model.specs.Journal.{Pair, storedBy, journalPairs}
 use Rattle.model.specs.GateMachine.{Gate, gate, withRow, rows, work, isAccess, remaining, positionNow, workOrWait, clock, gateRun}
 use Rattle.model.specs.Refusals.{_then_, memoryFits, bottomFits, waitsFit, stateFits, journalFits, runVerdict, fileVerdict, gateVerdict}
-use Rattle.model.specs.Bottom.{MemoryFirst, BottomNext, RunKeepsBottom, GateKeepsBottom, LevelStores, storesBelow, neverStoresBelow, clockStoresBelow, noClockStoresBelow, level, RunAsLevel, GateAsLevel, NeverAsLevel, NoClockAsLevel, AcceptedAsLevel}
+use Rattle.model.specs.Bottom.{MemoryFirst, BottomNext, RunKeepsBottom, GateKeepsBottom, LevelStores, never, storesBelow, neverStoresBelow, clockStoresBelow, noClockStoresBelow, level, RunAsLevel, GateAsLevel, NeverAsLevel, NoClockAsLevel, AcceptedAsLevel}
 use Rattle.model.proofs.Cases.{pick, Each, past, _▸_}
 use Rattle.model.proofs.Runs.{one-more}
 use Rattle.model.proofs.Clocks.{accessOver, one-clock}
@@ -101,6 +101,12 @@ where-true : (t : Bool) {x y : Bool} → (t ≡ true → x ≡ y) → (t && x) �
 where-true true h = h refl
 where-true false h = refl
 
+-- two things that happen alike as long as the first has never happened
+never-same : (f g : ℕ → Bool) → ((n : ℕ) → never f n ≡ true → f n ≡ g n) → (n : ℕ) → never f n ≡ never g n
+unfolding never
+never-same f g h zero = refl
+never-same f g h (suc n) = where-true (never f n) (λ e. ap not (h n e)) ∙ ap (λ (t : Bool). t && not (g n)) (never-same f g h n)
+
 pub level-stores : LevelStores
 level-stores memory address word = rw (leb·zero address)
 
@@ -157,7 +163,7 @@ module _ (board : Board) where
     stored-level h = rw (leb·zero (I.addressB memory m), same-pair (I.goesOn (r .ending) && I.nextRuns memory m) (I.storesToMemory memory m) (alterable (board .bottom) (I.addressB memory m)) h)
 
 pub run-as-level : RunAsLevel
-unfolding I.interpret journalPairs neverStoresBelow
+unfolding I.interpret journalPairs never
 run-as-level board zero r h = record { run = refl; pairs = refl }
 run-as-level board (suc n) r h =
     let last = I.interpret board n r in
@@ -169,12 +175,7 @@ run-as-level board (suc n) r h =
     }
 
 pub never-as-level : NeverAsLevel
-unfolding neverStoresBelow
-never-as-level board zero r = refl
-never-as-level board (suc n) r =
-    let bottom = board .bottom in
-    where-true (neverStoresBelow bottom board n r) (λ e. ap (λ (x : I.Run). not (storesBelow bottom x)) (run-as-level board n r e .run))
-    ∙ ap (λ (t : Bool). t && not (storesBelow bottom (I.interpret (level board) n r))) (never-as-level board n r)
+never-as-level board n r = never-same _ _ (λ i e. ap (storesBelow (board .bottom)) (run-as-level board i r e .run)) n
 
 module _ (board : Board) (g : Gate) where
   abbrev s : GateState
@@ -227,7 +228,7 @@ clock-level board g h = go (isAccess (g .state .row)) refl (present (g .memory) 
     go false a t w e = work-level board g (elsewhere (eqb (g .state .row) 9) refl a)
 
 pub gate-as-level : GateAsLevel
-unfolding gateRun noClockStoresBelow
+unfolding gateRun never
 gate-as-level board zero g h = refl
 gate-as-level board (suc k) g h =
     let last = gateRun board k g in
@@ -235,12 +236,7 @@ gate-as-level board (suc k) g h =
     clock-level board last now ∙ ap (clock (level board)) (gate-as-level board k g never)
 
 pub no-clock-as-level : NoClockAsLevel
-unfolding noClockStoresBelow
-no-clock-as-level board zero g = refl
-no-clock-as-level board (suc k) g =
-    let bottom = board .bottom in
-    where-true (noClockStoresBelow bottom board k g) (λ e. ap (λ (x : Gate). not (clockStoresBelow bottom board x)) (gate-as-level board k g e))
-    ∙ ap (λ (t : Bool). t && not (clockStoresBelow bottom (level board) (gateRun (level board) k g))) (no-clock-as-level board k g)
+no-clock-as-level board k g = never-same _ _ (λ i e. ap (clockStoresBelow (board .bottom) board) (gate-as-level board i g e)) k
 
 -- a bottom of 0 is never too high
 level-fits : (memory : List ℕ) (bottom : ℕ) (rest : Verdict) → (memoryFits memory then bottomFits memory bottom then rest) ≡ Accepted

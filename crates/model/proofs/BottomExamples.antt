@@ -20,7 +20,7 @@ use Rattle.model.specs.GateMachine.{Gate, gate, stateWith, atRest, work,
 use Rattle.model.specs.Packed.{noFlags}
 use Rattle.model.specs.Agreement.{gateFrom}
 use Rattle.model.specs.Refusals.{runVerdict}
-use Rattle.model.specs.Bottom.{neverStoresBelow, noClockStoresBelow}
+use Rattle.model.specs.Bottom.{never, neverStoresBelow, noClockStoresBelow}
 
 -- r2, which is 5, is moved to word 1, which is 7; the accesses are the fetch, B's read and the store
 abbrev regs : List ℕ
@@ -87,12 +87,12 @@ unfolding field bit isInstruction operandA operandB isMove operation alu flagsAf
 gate-reads-below = refl
 
 -- the store to word 1 is below a bottom of 2, in instructions and in clocks
-never : map (λ (bottom : ℕ). neverStoresBelow bottom (waiting bottom) 1 moves) (0 ∷ 1 ∷ 2 ∷ []) ≡ true ∷ true ∷ false ∷ []
-unfolding neverStoresBelow field bit isInstruction operandA operandB isMove operation stores interpret
-never = refl
+never-below : map (λ (bottom : ℕ). neverStoresBelow bottom (waiting bottom) 1 moves) (0 ∷ 1 ∷ 2 ∷ []) ≡ true ∷ true ∷ false ∷ []
+unfolding never field bit isInstruction operandA operandB isMove operation stores interpret
+never-below = refl
 
 no-clock : map (λ (k : ℕ). noClockStoresBelow 2 (waiting 2) k (gateFrom (atRest regs noFlags) (0x122 ∷ 7 ∷ []))) (14 ∷ 15 ∷ []) ≡ true ∷ false ∷ []
-unfolding noClockStoresBelow field bit isInstruction operandA operandB isMove operation alu flagsAfter stores aluOf aluAt answers waitAt nextPosition work isAccess remaining positionNow workOrWait clock gateRun
+unfolding never field bit isInstruction operandA operandB isMove operation alu flagsAfter stores aluOf aluAt answers waitAt nextPosition work isAccess remaining positionNow workOrWait clock gateRun
 no-clock = refl
 
 -- the whole memory may be the bottom, one more may not; a memory of no words comes first

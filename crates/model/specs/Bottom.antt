@@ -43,6 +43,11 @@ GateKeepsBottom = (board : Board) (k : ℕ) (g : Gate) → take (board .bottom) 
 
 -- ---- "never stores below P"
 
+-- what happens at none of the first n
+unfoldable pub never : (happens : ℕ → Bool) → ℕ → Bool
+never happens zero = true
+never happens (suc n) = never happens n && not (happens n)
+
 -- the next instruction runs, and stores to memory below the bottom
 abbrev pub storesBelow : (bottom : ℕ) → Run → Bool
 storesBelow bottom r =
@@ -51,9 +56,8 @@ storesBelow bottom r =
     goesOn (r .ending) && nextRuns memory m && storesToMemory memory m && not (alterable bottom (addressB memory m))
 
 -- none of n instructions does, run on a board
-unfoldable pub neverStoresBelow : (bottom : ℕ) → Board → ℕ → Run → Bool
-neverStoresBelow bottom board zero r = true
-neverStoresBelow bottom board (suc n) r = neverStoresBelow bottom board n r && not (storesBelow bottom (interpret board n r))
+abbrev pub neverStoresBelow : (bottom : ℕ) → Board → ℕ → Run → Bool
+neverStoresBelow bottom board n r = never (λ i. storesBelow bottom (interpret board i r)) n
 
 -- the next clock completes row 9, at an address below the bottom
 abbrev pub clockStoresBelow : (bottom : ℕ) → Board → Gate → Bool
@@ -62,9 +66,8 @@ clockStoresBelow bottom board g =
     eqb (s .row) 9 && present (g .memory) (s .address) && eqb (remaining (board .waits) s) 0 && not (alterable bottom (s .address))
 
 -- none of k clocks does
-unfoldable pub noClockStoresBelow : (bottom : ℕ) → Board → ℕ → Gate → Bool
-noClockStoresBelow bottom board zero g = true
-noClockStoresBelow bottom board (suc k) g = noClockStoresBelow bottom board k g && not (clockStoresBelow bottom board (gateRun board k g))
+abbrev pub noClockStoresBelow : (bottom : ℕ) → Board → ℕ → Gate → Bool
+noClockStoresBelow bottom board k g = never (λ i. clockStoresBelow bottom board (gateRun board i g)) k
 
 -- ---- as with the bottom at 0
 

@@ -28,7 +28,7 @@ fn words_above(bottom: usize, words: usize) -> usize
 }
 
 // A program's store: below the bottom of memory it alters nothing. Whether it put the word. One comparison tells that the address is neither
-// below the bottom, where the difference goes round, nor absent: with one for each, a run with a wait list took 5 % longer.
+// below the bottom, where the difference goes round, nor absent: with one for each the stacking loop took 2 to 3 % longer.
 pub fn store_above(memory: &mut [u32], bottom: u32, address: u32, word: u32) -> bool
     ensures { λ r. ⌜ StoresAbove bottom (now (memory .entry)) address word (now (memory .exit)) r ⌝ }
 {

@@ -1,8 +1,8 @@
 -- A walk of its MIR, by hand. The borrow of the state is opened and the record is copied out. `clock` is passed the borrow of the memory,
--- which is given up for good, the bottom, a copy of the borrow of the waits, and the record by value. The state that it returned is stored in the
--- record's place, and the borrow is closed at it.
--- All that the proof knows of `clock` is that it meets its contract, and all that it knows of the records is their laws, which come from
--- the modules that `rattle check` makes of them: no field is named, but those of `GateResult`.
+-- which is given up for good, the bottom, a copy of the borrow of the waits, and the record by value. The state that it returned is stored
+-- in the record's place, and the borrow is closed at it. All that the proof knows of `clock` is that it meets its contract, and all that it
+-- knows of the records is their laws, which come from the modules that `rattle check` makes of them: no field is named, but those of
+-- `GateResult`.
 use Prim.Native.Nat.{ℕ}
 use mathlib.Core.Path.{_≡_, refl, ap}
 use mathlib.Core.List.{List, [], _∷_}
