@@ -10,8 +10,8 @@
  * Every call ends, returns a code, and touches nothing but the arrays it is lent.
  * It looks at its arguments in this order: the machine's, state's and result's
  * lengths (FM8502_MISFIT), then the reasons to refuse, lowest number first except
- * that 21 comes directly after 2 and that an image's fields are taken one by one.
- * After a refusal or a misfit everything lent is as it was.
+ * that 21 comes directly after 2 and 22 directly after 3, and that an image's fields
+ * are taken one by one. After a refusal or a misfit everything lent is as it was.
  *
  * A null pointer with length 0 is fine for an empty array. Undefined are:
  * - a length larger than the array that is lent;
@@ -70,7 +70,7 @@ enum {
     FM8502_NO_WORDS = 1,              /* the memory has no words */
     FM8502_TOO_MANY_WORDS = 2,        /* the memory has more than 16,777,216 words */
     FM8502_LONG_WAIT_LIST = 3,        /* the wait list has more than 65,536 entries */
-    FM8502_BAD_GATE_STATE = 4,        /* the gate state has a bad row, list position or access */
+    FM8502_BAD_GATE_STATE = 4,        /* the row, the list position or the access is bad */
     FM8502_TOO_MANY_INSTRUCTIONS = 5, /* the file run wants more than 65,536 instructions */
     FM8502_SHORT_JOURNAL = 6,         /* the journal has fewer than two places for each instruction */
     FM8502_SHORT_OUTPUT = 7,          /* the output is shorter than the image */
@@ -83,6 +83,7 @@ enum {
     FM8502_SHORT_MEMORY = 14,         /* the memory is shorter than the word count */
     FM8502_TRAILING_BYTES = 15,       /* bytes follow the end field */
     FM8502_BOTTOM_TOO_HIGH = 21,      /* the bottom exceeds the memory's length */
+    FM8502_RESETS_NOT_RISING = 22,    /* the reset list does not rise strictly */
     FM8502_STOPPED = 100,             /* carried out: "outside", or "undone" for a file run */
     FM8502_HALTED = 101,              /* carried out: "no instruction"; fm8502_run alone */
     FM8502_MISFIT = 200               /* machine, state or result of another length than named */
@@ -106,13 +107,19 @@ enum {
  * memory does not have (FM8502_STOPPED), and before a word that is no instruction:
  * bit 14 or one of bits 20 to 31 is 1 (FM8502_HALTED; what its operands need is
  * not looked at). Memory and machine are then those before it.
- * The wait list is taken from its beginning.
- * result, 2 places: instructions that ran; their clock total, waits included.
- * Codes: 0, 1, 2, 21, 3, 100, 101, 200.
+ * position: of the wait list's entry to begin with, below the list's length; 0 for
+ * its beginning, and for an empty list; any other is FM8502_BAD_GATE_STATE.
+ * result, 3 places: instructions that ran; their clock total, waits included; the
+ * list position after them, also where the run stopped.
+ * To go on, lend the next run the memory and machine as they were left, and give it
+ * that position; instructions and clocks of the two runs add up. To go on from a gate
+ * state in row 0, as a reset leaves it: the machine is the state's first 12 words, and
+ * the position its FM8502_POSITION.
+ * Codes: 0, 1, 2, 21, 3, 4, 100, 101, 200.
  */
 uint32_t fm8502_run(uint32_t *memory, size_t memory_words, uint32_t bottom, const uint16_t *waits,
-                    size_t waits_entries, uint32_t *machine, size_t machine_words, uint32_t count,
-                    uint64_t *result, size_t result_places);
+                    size_t waits_entries, uint32_t position, uint32_t *machine,
+                    size_t machine_words, uint32_t count, uint64_t *result, size_t result_places);
 
 /*
  * Runs up to count instructions, at most FM8502_MOST_INSTRUCTIONS, without waits.
@@ -132,19 +139,32 @@ uint32_t fm8502_file_run(uint32_t *memory, size_t memory_words, uint32_t bottom,
 
 /*
  * Does so many clocks of the gate machine. To start between instructions at the
- * head of the wait list: the machine's 12 words, and 0 in the other 9. A run that
+ * head of the wait list: the machine's 12 words, and 0 in the other 9; where
+ * fm8502_run left off: the same, with its position at FM8502_POSITION. A run that
  * follows on is lent the state as it was left, and goes on in the list from there.
  * A word that is no instruction is read with its wait; then the machine is in row
- * 12, where it stays, however many clocks follow.
- * result, 1 place: instructions finished in these clocks.
- * Codes: 0, 1, 2, 21, 3, 4, 200.
+ * 12, where it stays, however many clocks follow without a reset.
+ * resets: the numbers of the clocks on which the reset line is held, each above the
+ * one before. They count from 0 at the beginning of this run, and anew in a run that
+ * follows on; numbers at or past clocks rise too, and have no effect. (NULL, 0): no
+ * resets.
+ * A reset clock does no row's work. r0 and the row become 0, and an access that has
+ * begun is dropped; its wait entry is used up. The other registers, flags, latches,
+ * list position and memory stay, with all that the cut instruction has done to them,
+ * and that instruction does not count as finished. On the next clock the machine
+ * begins with the instruction at address 0, also where a missing word or row 12 had
+ * held it.
+ * Clocks on which a missing word or row 12 keeps the machine cost no time, however
+ * many; each reset in the list costs some.
+ * result, 1 place: instructions finished in these clocks, before a reset too.
+ * Codes: 0, 1, 2, 21, 3, 22, 4, 200.
  */
 uint32_t fm8502_gate_run(uint32_t *memory, size_t memory_words, uint32_t bottom,
-                         const uint16_t *waits, size_t waits_entries, uint32_t *state,
-                         size_t state_words, uint64_t clocks, uint64_t *result,
-                         size_t result_places);
+                         const uint16_t *waits, size_t waits_entries, const uint64_t *resets,
+                         size_t resets_numbers, uint32_t *state, size_t state_words,
+                         uint64_t clocks, uint64_t *result, size_t result_places);
 
-/* As fm8502_gate_run with one clock. */
+/* As fm8502_gate_run with one clock and no resets. */
 uint32_t fm8502_clock(uint32_t *memory, size_t memory_words, uint32_t bottom,
                       const uint16_t *waits, size_t waits_entries, uint32_t *state,
                       size_t state_words, uint64_t *result, size_t result_places);

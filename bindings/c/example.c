@@ -1,7 +1,7 @@
 /*
  * Stacks the traces of an image under a wait list, rolls a file back, runs into a
- * word that is no instruction, and stores into a loader on a board that holds it,
- * and on one that does not.
+ * word that is no instruction, stores into a loader on a board that holds it, and
+ * on one that does not, and restarts a drifted sledge by its reset line.
  * Usage: example FOLDER, the folder of the example images.
  */
 #include "fm8502.h"
@@ -17,15 +17,20 @@ enum {
     TRACE_COUNT = 0x0F,
     ACCUMULATORS = 0x10,
     SAMPLES = 8,
-    LOADER_WORDS = 4 /* of loader.image; as many accumulators lie behind it */
+    LOADER_WORDS = 4, /* of loader.image; as many accumulators lie behind it */
+    RESET = 1000,     /* a clock on which restart.image is stuck */
+    FIRST_PART = 40,  /* of the instructions after it */
+    RESTARTED_ACCUMULATORS = 0x14,
+    RESTARTED_SAMPLES = 4
 };
 
-/* A machine with its memory. */
+/* A machine with its memory, and its position in the wait list. */
 typedef struct {
     uint32_t machine[FM8502_MACHINE_SIZE];
     uint32_t memory[MEMORY_WORDS];
     size_t words;
     uint32_t bottom;
+    uint32_t position;
 } Card;
 
 static FILE *open_file(const char *folder, const char *name, const char *mode) {
@@ -60,6 +65,7 @@ static Card load(const char *folder, const char *name) {
            FM8502_DONE);
     card.words = (size_t)words;
     card.bottom = 0;
+    card.position = 0;
     printf("%s: %zu words\n", name, card.words);
     return card;
 }
@@ -87,24 +93,30 @@ static const char *ending(uint32_t code) {
 /* Runs the card, to the ending that is expected; returns the clock total. */
 static uint64_t run(const char *name, Card *card, const uint16_t *waits, size_t entries,
                     uint32_t expected) {
-    uint64_t result[2];
+    uint64_t result[3];
     expect(name,
-           fm8502_run(card->memory, card->words, card->bottom, waits, entries, card->machine,
-                      FM8502_MACHINE_SIZE, INSTRUCTIONS, result, 2),
+           fm8502_run(card->memory, card->words, card->bottom, waits, entries, card->position,
+                      card->machine, FM8502_MACHINE_SIZE, INSTRUCTIONS, result, 3),
            expected);
+    card->position = (uint32_t)result[2];
     printf("%s: %s, %llu instructions, %llu clocks\n", name, ending(expected),
            (unsigned long long)result[0], (unsigned long long)result[1]);
     return result[1];
 }
 
-static void run_gates(Card *card, const uint16_t *waits, size_t entries, uint64_t clocks) {
+/* So many clocks of the gate machine; the card is then the state's, for run to go on with. */
+static void run_gates(Card *card, const uint16_t *waits, size_t entries, const uint64_t *resets,
+                      size_t numbers, uint64_t clocks) {
     uint32_t state[FM8502_STATE_SIZE] = {0};
     memcpy(state, card->machine, sizeof card->machine);
+    state[FM8502_POSITION] = card->position;
     uint64_t finished;
     expect("gate run",
-           fm8502_gate_run(card->memory, card->words, card->bottom, waits, entries, state,
-                           FM8502_STATE_SIZE, clocks, &finished, 1),
+           fm8502_gate_run(card->memory, card->words, card->bottom, waits, entries, resets, numbers,
+                           state, FM8502_STATE_SIZE, clocks, &finished, 1),
            FM8502_DONE);
+    memcpy(card->machine, state, sizeof card->machine);
+    card->position = state[FM8502_POSITION];
     printf("gate machine: %llu instructions, row %u\n", (unsigned long long)finished,
            (unsigned)state[FM8502_ROW]);
 }
@@ -122,6 +134,12 @@ static size_t run_file(Card *card, uint32_t *journal, uint32_t expected) {
     return (size_t)result[1];
 }
 
+/* Whether two cards have the same memory and machine. */
+static int alike(const Card *one, const Card *other) {
+    return !memcmp(one->memory, other->memory, 4 * one->words) &&
+           !memcmp(one->machine, other->machine, sizeof one->machine);
+}
+
 static void stack(Card *card, const uint16_t *waits, size_t entries) {
     Card copy = *card;
     uint64_t clocks = run("run", card, waits, entries, FM8502_DONE);
@@ -131,7 +149,7 @@ static void stack(Card *card, const uint16_t *waits, size_t entries) {
     print_words("registers", card->machine, 8);
     printf("traces %u\n", (unsigned)card->memory[TRACE_COUNT]);
     print_words("accumulators", card->memory + ACCUMULATORS, SAMPLES);
-    run_gates(&copy, waits, entries, clocks);
+    run_gates(&copy, waits, entries, NULL, 0, clocks);
 }
 
 static void roll_back(Card *card) {
@@ -139,9 +157,7 @@ static void roll_back(Card *card) {
     uint32_t journal[2 * INSTRUCTIONS] = {0};
     size_t pairs = run_file(card, journal, FM8502_STOPPED);
     print_words("journal", journal, 2 * pairs);
-    int same = !memcmp(card->memory, former.memory, 4 * card->words) &&
-               !memcmp(card->machine, former.machine, sizeof former.machine);
-    printf("memory and machine as before: %s\n", same ? "yes" : "no");
+    printf("memory and machine as before: %s\n", alike(card, &former) ? "yes" : "no");
 
     uint64_t result[2];
     uint32_t code = fm8502_file_run(card->memory, card->words, card->bottom, journal, 9,
@@ -155,7 +171,7 @@ static void halt(Card *card, const uint16_t *waits, size_t entries) {
     run("run", card, waits, entries, FM8502_HALTED);
     uint32_t pc = card->machine[FM8502_R0], next[2] = {pc, card->memory[pc]};
     print_words("next", next, 2);
-    run_gates(&copy, waits, entries, UINT64_MAX);
+    run_gates(&copy, waits, entries, NULL, 0, UINT64_MAX);
 }
 
 /* Both engines and a file run, each from the start; then a run on the memory that was left. */
@@ -170,10 +186,11 @@ static void run_on_board(const Card *start, uint32_t bottom, const uint16_t *wai
     uint64_t clocks = run("run", &card, waits, entries, FM8502_DONE);
     print_words("loader", card.memory, LOADER_WORDS);
     print_words("accumulators", card.memory + LOADER_WORDS, LOADER_WORDS);
-    run_gates(&gates, waits, entries, clocks);
+    run_gates(&gates, waits, entries, NULL, 0, clocks);
     run_file(&file, journal, FM8502_DONE);
     /* A loader that was stored over leads outside. */
     memcpy(card.machine, start->machine, sizeof card.machine);
+    card.position = 0;
     run("again", &card, waits, entries, bottom ? FM8502_DONE : FM8502_STOPPED);
 }
 
@@ -181,12 +198,62 @@ static void store_into_loader(Card *card, const uint16_t *waits, size_t entries)
     run_on_board(card, LOADER_WORDS, waits, entries);
     run_on_board(card, 0, waits, entries);
 
-    uint64_t result[2];
+    uint64_t result[3];
     uint32_t past = (uint32_t)card->words + 1;
-    uint32_t code = fm8502_run(card->memory, card->words, past, waits, entries, card->machine,
-                               FM8502_MACHINE_SIZE, INSTRUCTIONS, result, 2);
+    uint32_t code = fm8502_run(card->memory, card->words, past, waits, entries, 0, card->machine,
+                               FM8502_MACHINE_SIZE, INSTRUCTIONS, result, 3);
     expect("run", code, FM8502_BOTTOM_TOO_HIGH);
     printf("bottom %u: refused %u\n", (unsigned)past, (unsigned)code);
+}
+
+/* As many instructions as run does, in two parts: the second goes on where the first left off. */
+static void run_in_parts(Card *card, const uint16_t *waits, size_t entries) {
+    const uint32_t counts[2] = {FIRST_PART, INSTRUCTIONS - FIRST_PART};
+    uint64_t ran = 0, clocks = 0, result[3];
+    for (int part = 0; part < 2; part++) {
+        expect("run",
+               fm8502_run(card->memory, card->words, card->bottom, waits, entries, card->position,
+                          card->machine, FM8502_MACHINE_SIZE, counts[part], result, 3),
+               FM8502_DONE);
+        ran += result[0];
+        clocks += result[1];
+        card->position = (uint32_t)result[2];
+    }
+    printf("in two parts: %llu instructions, %llu clocks, position %u\n", (unsigned long long)ran,
+           (unsigned long long)clocks, (unsigned)card->position);
+}
+
+static void refuse_resets(Card *card, const uint16_t *waits, size_t entries) {
+    uint32_t state[FM8502_STATE_SIZE] = {0};
+    memcpy(state, card->machine, sizeof card->machine);
+    const uint64_t twice[2] = {RESET, RESET};
+    uint64_t finished;
+    uint32_t code = fm8502_gate_run(card->memory, card->words, card->bottom, waits, entries, twice,
+                                    2, state, FM8502_STATE_SIZE, RESET + 1, &finished, 1);
+    expect("gate run", code, FM8502_RESETS_NOT_RISING);
+    printf("resets %d %d: refused %u\n", RESET, RESET, (unsigned)code);
+}
+
+/* A drifted sledge is stuck until a reset; then both engines go on alike. */
+static void restart(Card *start, const uint16_t *waits, size_t entries) {
+    Card drifted = *start, stuck = *start, card = *start, gates = *start;
+    run("run", &drifted, waits, entries, FM8502_STOPPED);
+    run_gates(&stuck, waits, entries, NULL, 0, RESET);
+    printf("reset on clock %d\n", RESET);
+    uint64_t resets[2] = {RESET};
+    run_gates(&card, waits, entries, resets, 1, RESET + 1);
+    printf("position %u\n", (unsigned)card.position);
+
+    Card parts = card;
+    uint64_t clocks = run("restarted", &card, waits, entries, FM8502_DONE);
+    printf("position %u\n", (unsigned)card.position);
+    print_words("accumulators", card.memory + RESTARTED_ACCUMULATORS, RESTARTED_SAMPLES);
+    run_in_parts(&parts, waits, entries);
+    /* The clocks of a run count from 0, so its number of clocks is past the last of them. */
+    resets[1] = RESET + 1 + clocks;
+    run_gates(&gates, waits, entries, resets, 2, resets[1]);
+    printf("memory and machine as the interpreter's: %s\n", alike(&gates, &card) ? "yes" : "no");
+    refuse_resets(start, waits, entries);
 }
 
 int main(int count, char **arguments) {
@@ -201,5 +268,7 @@ int main(int count, char **arguments) {
     halt(&halted, waits, entries);
     Card loader = load(folder, "loader.image");
     store_into_loader(&loader, waits, entries);
+    Card drifted = load(folder, "restart.image");
+    restart(&drifted, waits, entries);
     return 0;
 }

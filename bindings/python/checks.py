@@ -1,5 +1,5 @@
 """What the module refuses, how a wait list goes on, what a halting word does, what the bottom
-keeps, and that arrays are lent without a copy.
+keeps, what a reset does, and that arrays are lent without a copy.
 
 numpy is looked at where it is installed.
 """
@@ -17,6 +17,8 @@ except ImportError:
 
 # inc r1, then dec r1 and set Z
 PROGRAM = (0x00010021, 0x00050421)
+# inc r1, then a word that is no instruction
+HALTING = (PROGRAM[0], 1 << 14)
 # inc (r2),(r2): 11 clocks, and its four accesses wait 2, 3, 2, 3
 STORING = (0x0001014A, 0, 0, 41)
 
@@ -51,6 +53,8 @@ def check_shared():
         refuses(ValueError, "share places", fm8502.file_run, first, second, machine, 1)
     halves = memoryview(whole.cast("B")).cast("H")
     refuses(ValueError, "share places", fm8502.run, memory, halves, machine, 1)
+    pairs, lent = whole.cast("B").cast("Q"), (memory, array("H"), fm8502.GateState(), 1)
+    refuses(ValueError, "share places", fm8502.gate_run, *lent, resets=pairs[1:])
     # Side by side is apart.
     assert fm8502.file_run(whole[:2], whole[2:], machine, 1).finished
 
@@ -77,25 +81,49 @@ def check_undone():
 
 
 def check_wait_list():
-    """The list comes round in both engines; a state's position is in its list, or 0."""
+    """The list comes round in both engines; a position is in its list, or 0."""
     # move (r1),(r1), five times: 11 clocks and four accesses each
     memory, waits = array("I", [0x00000129] * 5), array("H", [1, 2, 3, 4, 5])
     ran = fm8502.run(memory, waits, fm8502.Machine(), 5)
     assert ran.clocks == 5 * 11 + 4 * sum(waits)
     state = fm8502.GateState()
-    assert fm8502.gate_run(memory, waits, state, ran.clocks) == 5 and state.position == 0
+    assert fm8502.gate_run(memory, waits, state, ran.clocks) == 5
+    assert state.position == ran.position == 0
     for lent, position in ((array("H"), 1), (waits, 5)):
         past = fm8502.GateState(position=position)
         refuses(fm8502.Refused, "list position", fm8502.clock, memory, lent, past)
         refuses(fm8502.Refused, "refused 4", fm8502.gate_run, memory, lent, past, 0)
+        start = fm8502.Machine()
+        refuses(fm8502.Refused, "refused 4", fm8502.run, memory, lent, start, 0, position=position)
+
+
+def check_going_on():
+    """A run goes on from the machine and position that another left, or a gate state has."""
+    memory, waits = array("I", [0x00000129] * 5), array("H", [1, 2, 3, 4, 5])
+    machine, clocks, position = fm8502.Machine(), 0, 1
+    # The last part is outside after two instructions.
+    for count, after in ((2, 4), (0, 4), (1, 3), (9, 1)):
+        ran = fm8502.run(memory, waits, machine, count, position=position)
+        clocks, position = clocks + ran.clocks, ran.position
+        assert position == after and ran.finished == (count < 9)
+    assert clocks == 5 * 11 + 4 * sum(waits)
+    state = fm8502.GateState()
+    assert fm8502.gate_run(memory, waits, state, 11 + 1 + 2 + 3 + 4) == 1
+    ran = fm8502.run(memory, waits, state.machine, 4, position=state.position)
+    assert ran == fm8502.Run(True, False, ran=4, clocks=4 * 11 + 3 * sum(waits) + 5, position=0)
+    lent = memory, waits, machine, 0
+    for position in (-1, 1 << 32):
+        refuses(ValueError, "a count of 32 bits", fm8502.run, *lent, position=position)
+    refuses(TypeError, "float", fm8502.run, *lent, position=1.0)
+    refuses(TypeError, "positional argument", fm8502.run, *lent, 0)
 
 
 def check_halted():
     """A word that is no instruction ends a run, undoes a file run and keeps the gate machine in row 12."""
-    memory, waits = array("I", [PROGRAM[0], 1 << 14]), array("H", [3])
+    memory, waits = array("I", HALTING), array("H", [3])
     machine = fm8502.Machine()
     ran = fm8502.run(memory, waits, machine, 5)
-    assert ran == fm8502.Run(finished=False, halted=True, ran=1, clocks=9 + 3)
+    assert ran == fm8502.Run(finished=False, halted=True, ran=1, clocks=9 + 3, position=0)
     assert machine.registers[:2] == [1, 1]
     state = fm8502.GateState()
     assert fm8502.gate_run(memory, waits, state, (1 << 64) - 1) == 1 and state.row == 12
@@ -146,10 +174,56 @@ def check_bottom():
 def check_below_bottom():
     """A store below the bottom costs what another does, and takes no pair of the journal."""
     lent = {call: (memory, *others) for call, memory, others in storing_runs()}
-    assert fm8502.run(*lent[fm8502.run], bottom=4) == fm8502.Run(True, False, ran=1, clocks=21)
+    ran = fm8502.run(*lent[fm8502.run], bottom=4)
+    assert ran == fm8502.Run(True, False, ran=1, clocks=21, position=0)
     assert fm8502.gate_run(*lent[fm8502.gate_run], bottom=4) == 1
     assert fm8502.file_run(*lent[fm8502.file_run], bottom=4) == fm8502.FileRun(True, 1, pairs=0)
     assert lent[fm8502.file_run][1].tolist() == [7, 7]
+
+
+def reset_at(resets, clocks):
+    """The instructions finished and the state left, from the start of HALTING: its first
+    instruction takes clocks 0 to 11, its fetch 1 to 4, and the fetch of the next word 13 to 18."""
+    state = fm8502.GateState()
+    lent = array("I", HALTING), array("H", [3, 5]), state, clocks
+    return fm8502.gate_run(*lent, resets=resets), state
+
+
+def check_reset():
+    """A reset drops an access, leaves what is done, and frees the machine from row 12."""
+    assert reset_at([1], 2) == (0, fm8502.GateState())
+    assert reset_at([2], 3) == (0, fm8502.GateState(position=1))
+    finished, state = reset_at([11], 12)
+    assert (finished, state.row, state.machine.registers[:2]) == (0, 0, [0, 1])
+    assert reset_at([12, 13], 12) == reset_at([], 12)
+    finished, state = reset_at([1000], 1001)
+    assert (finished, state.row, state.machine.registers[:2]) == (1, 0, [0, 1])
+    assert reset_at([1000], 1001 + 12)[0] == 2
+    # A run that follows on counts anew.
+    memory, waits, parted = array("I", HALTING), array("H", [3, 5]), fm8502.GateState()
+    assert fm8502.gate_run(memory, waits, parted, 1000) == 1 and parted.row == 12
+    assert fm8502.gate_run(memory, waits, parted, 1, resets=[0]) == 0 and parted == state
+    refuses(TypeError, "unexpected keyword", fm8502.clock, memory, waits, parted, resets=[0])
+
+
+def check_reset_lists():
+    """A reset list is an array of 64-bit numbers, a list or a tuple, and rises strictly."""
+    left, top = reset_at([3, 1000], 1001), (1 << 64) - 1
+    numbers = array("Q", [3, 1000])
+    for resets in ((3, 1000, top), numbers, array("L", numbers), memoryview(numbers).toreadonly()):
+        assert reset_at(resets, 1001) == left
+    for resets in ([3, 3], (5, 3), [0, top, top], array("Q", [1, 0])):
+        refuses(fm8502.Refused, "22: the reset list does not rise strictly", reset_at, resets, 0)
+    for resets in ([-1], (3, 1 << 64)):
+        refuses(ValueError, "a clock number of 64 bits", reset_at, resets, 0)
+    for resets in ([1.0], ("1",), [None]):
+        refuses(TypeError, "as an integer", reset_at, resets, 0)
+    for resets in (array("I", [3]), array("q", [3]), array("d", [3]), b""):
+        refuses(TypeError, "8 bytes", reset_at, resets, 0)
+    for resets in (3, None, {3}):
+        refuses(TypeError, "bytes-like", reset_at, resets, 0)
+    lent = array("I", HALTING), array("H"), fm8502.GateState(), 0
+    refuses(TypeError, "positional argument", fm8502.gate_run, *lent, numbers)
 
 
 def check_numpy():
@@ -159,6 +233,9 @@ def check_numpy():
         assert ctypes.addressof(lend(ctypes.c_uint32, words[1:])) == words[1:].ctypes.data
     waits = numpy.array([2, 3], dtype=numpy.uint16)
     assert ctypes.addressof(fm8502._shown(ctypes.c_uint16, waits)) == waits.ctypes.data
+    resets = numpy.array([3, 5], dtype=numpy.uint64)
+    assert ctypes.addressof(fm8502._reset_list(resets)) == resets.ctypes.data
+    assert fm8502._reset_list(list(resets))[:] == [3, 5]
     memory = numpy.array(STORING, dtype=numpy.uint32)
     machine = fm8502.Machine(registers=[0, 0, 3, 0, 0, 0, 0, 0])
     assert fm8502.run(memory, waits, machine, 1).clocks == 21 and memory[3] == 42
@@ -178,9 +255,12 @@ check_shared()
 check_shapes()
 check_undone()
 check_wait_list()
+check_going_on()
 check_halted()
 check_bottom()
 check_below_bottom()
+check_reset()
+check_reset_lists()
 if numpy is not None:
     check_numpy()
 print("python: checked", "with numpy" if numpy is not None else "without numpy")

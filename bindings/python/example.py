@@ -1,5 +1,6 @@
 """Stacks the traces of an image under a wait list, rolls a file back, runs into a word that is
-no instruction, and stores into a loader on a board that holds it, and on one that does not.
+no instruction, stores into a loader on a board that holds it, and on one that does not, and
+restarts a drifted sledge by its reset line.
 
 Usage: example.py FOLDER, the folder of the example images.
 """
@@ -16,6 +17,10 @@ TRACE_COUNT = 0x0F
 ACCUMULATORS = slice(0x10, 0x18)
 # of loader.image; as many accumulators lie behind it
 LOADER_WORDS = 4
+# a clock on which restart.image is stuck, and the first part of the instructions after it
+RESET = 1000
+FIRST_PART = 40
+RESTARTED_ACCUMULATORS = slice(0x14, 0x18)
 
 
 def words(values):
@@ -28,17 +33,18 @@ def load(folder, name):
     return memory, machine
 
 
-def run(memory, waits, machine, bottom=0, name="run"):
-    ran = fm8502.run(memory, waits, machine, INSTRUCTIONS, bottom=bottom)
+def run(memory, waits, machine, bottom=0, name="run", position=0):
+    ran = fm8502.run(memory, waits, machine, INSTRUCTIONS, bottom=bottom, position=position)
     ending = "finished" if ran.finished else "no instruction" if ran.halted else "outside"
     print(f"{name}: {ending}, {ran.ran} instructions, {ran.clocks} clocks")
     return ran
 
 
-def run_gates(memory, waits, machine, clocks, bottom=0):
+def run_gates(memory, waits, machine, clocks, bottom=0, resets=()):
     state = fm8502.GateState(machine)
-    finished = fm8502.gate_run(memory, waits, state, clocks, bottom=bottom)
+    finished = fm8502.gate_run(memory, waits, state, clocks, bottom=bottom, resets=resets)
     print(f"gate machine: {finished} instructions, row {state.row}")
+    return state
 
 
 def run_file(memory, machine, bottom=0):
@@ -101,6 +107,40 @@ def store_into_loader(memory, waits, machine):
         print(f"bottom {past}: refused", refused.number)
 
 
+def run_in_parts(memory, waits, machine, position):
+    """The second part goes on where the first left off."""
+    first = fm8502.run(memory, waits, machine, FIRST_PART, position=position)
+    rest = INSTRUCTIONS - FIRST_PART
+    second = fm8502.run(memory, waits, machine, rest, position=first.position)
+    ran, clocks = first.ran + second.ran, first.clocks + second.clocks
+    print(f"in two parts: {ran} instructions, {clocks} clocks, position {second.position}")
+
+
+def restart(memory, waits, machine):
+    """A drifted sledge is stuck until a reset; then both engines go on alike."""
+    run(memory[:], waits, copy.deepcopy(machine))
+    run_gates(memory[:], waits, copy.deepcopy(machine), RESET)
+    print("reset on clock", RESET)
+    left = memory[:]
+    state = run_gates(left, waits, copy.deepcopy(machine), RESET + 1, resets=[RESET])
+    print("position", state.position)
+
+    parts = left[:], waits, copy.deepcopy(state.machine), state.position
+    ran = run(left, waits, state.machine, name="restarted", position=state.position)
+    print("position", ran.position)
+    print("accumulators" + words(left[RESTARTED_ACCUMULATORS]))
+    run_in_parts(*parts)
+    # The clocks of a run count from 0, so its number of clocks is past the last of them.
+    clocks, whole = RESET + 1 + ran.clocks, memory[:]
+    gates = run_gates(whole, waits, copy.deepcopy(machine), clocks, resets=[RESET, clocks])
+    same = (whole, gates.machine) == (left, state.machine)
+    print("memory and machine as the interpreter's:", "yes" if same else "no")
+    try:
+        run_gates(memory, waits, machine, RESET + 1, resets=[RESET, RESET])
+    except fm8502.Refused as refused:
+        print(f"resets {RESET} {RESET}: refused", refused.number)
+
+
 def main():
     folder = Path(sys.argv[1] if len(sys.argv) > 1 else "examples")
     waits = array("H", map(int, (folder / "stacking.waits").read_text().split()))
@@ -112,6 +152,8 @@ def main():
     halt(memory, waits, machine)
     memory, machine = load(folder, "loader.image")
     store_into_loader(memory, waits, machine)
+    memory, machine = load(folder, "restart.image")
+    restart(memory, waits, machine)
 
 
 main()

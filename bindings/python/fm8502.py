@@ -1,9 +1,10 @@
 """Calls of the proved FM8502 emulator.
 
 Memory and journal are lent as array('I') or a numpy array of uint32, wait lists
-as array('H') or of uint16, images as bytes. What can be written is lent without a
-copy; no two arrays of a call may share places. A call that is turned down raises
-Refused with the papers' number and leaves everything it was lent as it was.
+as array('H') or of uint16, reset lists as array('Q') or of uint64, or as a list or
+tuple, images as bytes. What can be written is lent without a copy; no two arrays of
+a call may share places. A call that is turned down raises Refused with the papers'
+number and leaves everything it was lent as it was.
 
 Every run takes the memory's bottom by name: how many words at its front hold the
 board's loader, at most its length. A store to one of them takes its clocks and
@@ -12,6 +13,7 @@ every word can be stored to.
 """
 
 import ctypes
+import operator
 import os
 from array import array
 from ctypes import c_size_t, c_uint8, c_uint16, c_uint32, c_uint64
@@ -28,7 +30,7 @@ _REASONS = {
     1: "the memory has no words",
     2: "the memory has more than 16,777,216 words",
     3: "the wait list has more than 65,536 entries",
-    4: "the gate state has a bad row, list position or access",
+    4: "the row, the list position or the access is bad",
     5: "the file run wants more than 65,536 instructions",
     6: "the journal has fewer than two places for each instruction",
     7: "the output is shorter than the image",
@@ -41,6 +43,7 @@ _REASONS = {
     14: "the memory is shorter than the word count",
     15: "bytes follow the end field",
     21: "the bottom exceeds the memory's length",
+    22: "the reset list does not rise strictly",
 }
 
 
@@ -75,7 +78,7 @@ class Machine:
 @dataclass
 class GateState:
     """The gate machine between two clocks; by default, between instructions. In row 12 it
-    has halted.
+    has halted until a reset.
 
     position is that of the next entry of the wait list: below the list's length,
     or 0 for an empty list.
@@ -114,6 +117,8 @@ class Run:
     ran: int
     # Clock total of the instructions that ran, their waits included.
     clocks: int
+    # List position after the instructions that ran, for a run that goes on.
+    position: int
 
 
 @dataclass(frozen=True)
@@ -139,7 +144,7 @@ _library = _load()
 
 
 # The element formats that a buffer may have for each type.
-_FORMATS = {c_uint8: "B", c_uint16: "H", c_uint32: "IL"}
+_FORMATS = {c_uint8: "B", c_uint16: "H", c_uint32: "IL", c_uint64: "LQ"}
 
 
 def _places(kind, buffer):
@@ -198,9 +203,20 @@ def _count(number, bits):
     return c_uint32(number) if bits == 32 else c_uint64(number)
 
 
-def _board(memory, bottom, beside):
-    """Arguments of a run: memory, its bottom, and the array that is lent beside it."""
-    memory, words, *beside = _apart(_lent(c_uint32, memory), beside)
+def _reset_list(resets):
+    """An array as it is; a list or tuple of numbers as a copy."""
+    if not isinstance(resets, (list, tuple)):
+        return _shown(c_uint64, resets)
+    numbers = [operator.index(number) for number in resets]
+    # c_uint64 drops higher bits silently, so refuse them here.
+    if any(not 0 <= number < 1 << 64 for number in numbers):
+        raise ValueError("a reset is not a clock number of 64 bits")
+    return (c_uint64 * len(numbers))(*numbers)
+
+
+def _board(memory, bottom, *beside):
+    """Arguments of a run: memory, its bottom, and the arrays that are lent beside it."""
+    memory, words, *beside = _apart(_lent(c_uint32, memory), *beside)
     return [memory, words, _count(bottom, 32), *beside]
 
 
@@ -216,15 +232,20 @@ def _changing(name, lent, state, middle, places):
     return code, result
 
 
-def run(memory, waits, machine, count, *, bottom=0):
-    """Runs up to count instructions with the wait list, from its beginning.
+def run(memory, waits, machine, count, *, bottom=0, position=0):
+    """Runs up to count instructions with the wait list, by default from its beginning.
 
     Each access to memory takes the next entry and waits so many clocks; after the
-    last entry the list begins again, and an empty list means no waits.
+    last entry the list begins again, and an empty list means no waits. The position
+    of the first entry to take is below the list's length, or 0.
+
+    To go on, give the next run the memory and machine that were left, and the
+    position of this Run. To go on from a GateState in row 0, as a reset leaves it,
+    give it the state's machine and position.
     """
-    lent = _board(memory, bottom, _shown(c_uint16, waits))
-    code, result = _changing("run", lent, machine, [_count(count, 32)], 2)
-    return Run(finished=code == _DONE, halted=code == _HALTED, ran=result[0], clocks=result[1])
+    lent = [*_board(memory, bottom, _shown(c_uint16, waits)), _count(position, 32)]
+    code, (ran, clocks, after) = _changing("run", lent, machine, [_count(count, 32)], 3)
+    return Run(finished=code == _DONE, halted=code == _HALTED, ran=ran, clocks=clocks, position=after)
 
 
 def file_run(memory, journal, machine, count, *, bottom=0):
@@ -234,17 +255,27 @@ def file_run(memory, journal, machine, count, *, bottom=0):
     return FileRun(finished=code == _DONE, ran=result[0], pairs=result[1])
 
 
-def gate_run(memory, waits, state, clocks, *, bottom=0):
-    """Does so many clocks of the gate machine; returns the instructions finished.
+def gate_run(memory, waits, state, clocks, *, bottom=0, resets=()):
+    """Does so many clocks of the gate machine; returns the instructions finished, before a
+    reset too.
 
     The wait list is as for run, but goes on from the state's position.
+
+    resets has the numbers of the clocks on which the reset line is held, each above
+    the one before. They count from 0 at the beginning of this run, and anew in a run
+    that follows on; numbers at or past clocks have no effect. A reset clock does no
+    row's work: r0 and the row become 0, and an access that has begun is dropped, its
+    wait entry used up. The other registers, flags, latches, list position and memory
+    stay, with all that the cut instruction has done to them; it does not count as
+    finished. On the next clock the machine begins with the instruction at address 0,
+    also where a missing word or row 12 had held it.
     """
-    lent = _board(memory, bottom, _shown(c_uint16, waits))
+    lent = _board(memory, bottom, _shown(c_uint16, waits), _reset_list(resets))
     return _changing("gate_run", lent, state, [_count(clocks, 64)], 1)[1][0]
 
 
 def clock(memory, waits, state, *, bottom=0):
-    """Does one clock; returns whether an instruction finished."""
+    """Does one clock, without a reset; returns whether an instruction finished."""
     lent = _board(memory, bottom, _shown(c_uint16, waits))
     return bool(_changing("clock", lent, state, [], 1)[1][0])
 

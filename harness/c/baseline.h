@@ -13,13 +13,14 @@
 #define INLINE static inline __attribute__((always_inline))
 
 uint32_t baseline_run(uint32_t *memory, size_t memory_words, uint32_t bottom,
-                      const uint16_t *waits, size_t waits_entries, uint32_t *machine,
-                      uint32_t count, uint64_t *result);
+                      const uint16_t *waits, size_t waits_entries, uint32_t position,
+                      uint32_t *machine, uint32_t count, uint64_t *result);
 uint32_t baseline_file_run(uint32_t *memory, size_t memory_words, uint32_t bottom,
                            uint32_t *journal, uint32_t *machine, uint32_t count,
                            uint64_t *result);
 uint32_t baseline_gate_run(uint32_t *memory, size_t memory_words, uint32_t bottom,
-                           const uint16_t *waits, size_t waits_entries, uint32_t *state,
+                           const uint16_t *waits, size_t waits_entries,
+                           const uint64_t *resets, size_t resets_numbers, uint32_t *state,
                            uint64_t clocks, uint64_t *result);
 uint32_t baseline_image_read(const uint8_t *bytes, size_t length, uint32_t *memory,
                              uint32_t *machine, uint64_t *result);

@@ -19,9 +19,8 @@ static const bool IS_ACCESS[13] = {0, 1, 0, 0, 1, 0, 1, 0, 0, 1, 0, 0, 0};
 
 enum { DIRECT = 0, BEFORE = 2, AFTER = 3 };
 
-// Whether the access completes on this clock.
-INLINE bool access_completes(State *s, size_t words, const uint16_t *waits, size_t entries) {
-    if (s->address >= words) return false;
+// Whether the access, to a word that is there, completes on this clock.
+INLINE bool access_completes(State *s, const uint16_t *waits, size_t entries) {
     if (s->begun) {
         s->begun = --s->left > 0;
     } else if (s->position < entries) {
@@ -38,12 +37,17 @@ INLINE bool condition(uint32_t number, uint32_t flags) {
     return (flags >> shift[number >> 1] & 1) == (number & 1);
 }
 
-// Rows 3 and 5: whether the operand is direct; its register's word in *word.
-INLINE bool take(State *s, uint32_t field, uint32_t *word) {
+// Rows 3 and 5: a direct operand to its latch, or the address; returns the next row.
+INLINE uint32_t take(State *s, uint32_t field, uint32_t *latch, uint32_t direct_next) {
     uint32_t number = field & 7, mode = field >> 3 & 3;
     if (mode == BEFORE) s->registers[number]--;
-    *word = s->registers[number];
-    return mode == DIRECT;
+    uint32_t word = s->registers[number];
+    if (mode == DIRECT) {
+        *latch = word;
+        return direct_next;
+    }
+    s->address = word;
+    return direct_next - 1;
 }
 
 // Row 7; returns the next row.
@@ -64,11 +68,16 @@ INLINE void step_up(State *s, uint32_t field) {
     if ((field >> 3 & 3) == AFTER) s->registers[field & 7]++;
 }
 
-// One clock; whether an instruction finished.
-INLINE bool tick(State *s, uint32_t *memory, size_t words, uint32_t bottom, const uint16_t *waits,
-                 size_t entries) {
-    uint32_t row = s->row, next = NEXT[row], i = s->instruction, word;
-    if (IS_ACCESS[row] && !access_completes(s, words, waits, entries)) return false;
+// What became of one clock; after STAYS nothing changes any more before a reset.
+typedef enum { MOVED, FINISHED, STAYS } Clock;
+
+INLINE Clock tick(State *s, uint32_t *memory, size_t words, uint32_t bottom, const uint16_t *waits,
+                  size_t entries) {
+    uint32_t row = s->row, next = NEXT[row], i = s->instruction;
+    if (IS_ACCESS[row]) {
+        if (s->address >= words) return STAYS;
+        if (!access_completes(s, waits, entries)) return MOVED;
+    }
     switch (row) {
     case 0: s->address = s->registers[0]; break;
     case 1:
@@ -76,21 +85,9 @@ INLINE bool tick(State *s, uint32_t *memory, size_t words, uint32_t bottom, cons
         if (s->instruction & HALTING_BITS) next = HALTED_ROW;
         break;
     case 2: s->registers[0]++; break;
-    case 3:
-        if (take(s, i, &word)) {
-            s->a = word;
-            next = 5;
-        } else
-            s->address = word;
-        break;
+    case 3: next = take(s, i, &s->a, 5); break;
     case 4: s->a = memory[s->address]; break;
-    case 5:
-        if (take(s, i >> 5, &word)) {
-            s->b = word;
-            next = 7;
-        } else
-            s->address = word;
-        break;
+    case 5: next = take(s, i >> 5, &s->b, 7); break;
     case 6: s->b = memory[s->address]; break;
     case 7: next = compute(s); break;
     case 8: s->registers[i >> 5 & 7] = s->result; break;
@@ -98,11 +95,33 @@ INLINE bool tick(State *s, uint32_t *memory, size_t words, uint32_t bottom, cons
         if (s->address >= bottom) memory[s->address] = s->result;
         break;
     case 10: step_up(s, i); break;
-    case 11: step_up(s, i >> 5); break;
-    default: break;
+    case 11:
+        step_up(s, i >> 5);
+        s->row = 0;
+        return FINISHED;
+    default: return STAYS;
     }
     s->row = next;
-    return row == 11;
+    return MOVED;
+}
+
+// So many clocks; returns how many instructions finished.
+INLINE uint64_t do_clocks(State *s, uint32_t *memory, size_t words, uint32_t bottom,
+                          const uint16_t *waits, size_t entries, uint64_t clocks) {
+    uint64_t finished = 0;
+    for (uint64_t k = 0; k < clocks; k++) {
+        Clock clock = tick(s, memory, words, bottom, waits, entries);
+        if (clock == STAYS) break;
+        finished += clock == FINISHED;
+    }
+    return finished;
+}
+
+INLINE void reset(State *s) {
+    s->registers[0] = 0;
+    s->row = 0;
+    s->begun = false;
+    s->left = 0;
 }
 
 INLINE State state_of(const uint32_t *w) {
@@ -141,12 +160,18 @@ INLINE void give(const State *s, uint32_t *w) {
 }
 
 uint32_t baseline_gate_run(uint32_t *memory, size_t memory_words, uint32_t bottom,
-                           const uint16_t *waits, size_t waits_entries, uint32_t *state,
+                           const uint16_t *waits, size_t waits_entries,
+                           const uint64_t *resets, size_t resets_numbers, uint32_t *state,
                            uint64_t clocks, uint64_t *result) {
     State s = state_of(state);
-    uint64_t finished = 0;
-    for (uint64_t k = 0; k < clocks; k++)
-        finished += tick(&s, memory, memory_words, bottom, waits, waits_entries);
+    uint64_t finished = 0, begin = 0; // the clock after the last reset
+    for (size_t i = 0; i < resets_numbers && resets[i] < clocks; i++) {
+        finished += do_clocks(&s, memory, memory_words, bottom, waits, waits_entries,
+                              resets[i] - begin);
+        reset(&s);
+        begin = resets[i] + 1;
+    }
+    finished += do_clocks(&s, memory, memory_words, bottom, waits, waits_entries, clocks - begin);
     give(&s, state);
     result[0] = finished;
     return FM8502_DONE;

@@ -175,7 +175,12 @@ INLINE uint32_t go(Engine *e, Registers *g, const uint32_t *machine, uint32_t co
                    uint64_t *ran) {
     take_machine(e, g, machine);
     uint32_t done = 0, code = FM8502_DONE;
-    while (done < count && (code = step(e, g)) == FM8502_DONE) done++;
+    size_t position = e->position;
+    while (done < count && (code = step(e, g)) == FM8502_DONE) {
+        done++;
+        position = e->position;
+    }
+    e->position = position; // an instruction that does not run may have taken entries
     *ran = done;
     return code;
 }
@@ -193,16 +198,18 @@ INLINE uint32_t plain_run(Engine e, uint32_t *machine, uint32_t count, uint64_t 
     uint32_t code = go(&e, &g, machine, count, &result[0]);
     give_machine(&e, &g, machine);
     result[1] = e.clocks;
+    result[2] = e.position;
     return code;
 }
 
 uint32_t baseline_run(uint32_t *memory, size_t memory_words, uint32_t bottom,
-                      const uint16_t *waits, size_t waits_entries, uint32_t *machine,
-                      uint32_t count, uint64_t *result) {
+                      const uint16_t *waits, size_t waits_entries, uint32_t position,
+                      uint32_t *machine, uint32_t count, uint64_t *result) {
     Engine e = {.memory = memory, .words = memory_words, .bottom = bottom};
     if (waits_entries == 0) return plain_run(e, machine, count, result);
     e.waits = waits;
     e.entries = waits_entries;
+    e.position = position;
     return plain_run(e, machine, count, result);
 }
 

@@ -1,5 +1,7 @@
 //! What the examples of the bindings print, by the reference emulator.
 
+mod restart;
+
 use crate::text::hex_words;
 use reference::{file_run, gate_run, image, run};
 use reference::{Answer, FileAnswer, FileResult, GateResult, GateState, Machine, RunResult, Stop};
@@ -20,6 +22,7 @@ pub struct Images {
     pub outside: Vec<u8>,
     pub halted: Vec<u8>,
     pub loader: Vec<u8>,
+    pub restart: Vec<u8>,
 }
 
 /// The text for the images and the wait list.
@@ -35,7 +38,10 @@ pub fn text(images: &Images, waits: &[u16]) -> String {
     text += &comes_to_halt(memory, waits, machine);
     let (memory, machine) = load(&images.loader);
     text += &format!("loader.image: {} words\n", memory.len());
-    text + &holds_a_loader(&memory, waits, machine)
+    text += &holds_a_loader(&memory, waits, machine);
+    let (memory, machine) = load(&images.restart);
+    text += &format!("restart.image: {} words\n", memory.len());
+    text + &restart::restarted(&memory, waits, machine)
 }
 
 fn load(bytes: &[u8]) -> (Vec<u32>, Machine) {
@@ -48,9 +54,10 @@ fn load(bytes: &[u8]) -> (Vec<u32>, Machine) {
 
 fn stacked(mut memory: Vec<u32>, waits: &[u16], start: Machine) -> String {
     let mut copy = memory.clone();
-    let result = run(&mut memory, 0, waits, start, INSTRUCTIONS);
+    let result = run(&mut memory, 0, waits, 0, start, INSTRUCTIONS);
     assert_eq!(result.answer, Answer::Finished);
-    let gates = gate_run(&mut copy, 0, waits, GateState::start(start), result.clocks);
+    let state = GateState::start(start);
+    let gates = gate_run(&mut copy, 0, waits, &[], state, result.clocks);
     assert_eq!(copy, memory, "both engines leave the same memory");
     lines([
         run_line("run", &result),
@@ -115,9 +122,9 @@ fn rolled_back(mut memory: Vec<u32>, start: Machine) -> String {
 
 fn comes_to_halt(mut memory: Vec<u32>, waits: &[u16], start: Machine) -> String {
     let mut copy = memory.clone();
-    let result = run(&mut memory, 0, waits, start, INSTRUCTIONS);
+    let result = run(&mut memory, 0, waits, 0, start, INSTRUCTIONS);
     assert_eq!(result.answer, Answer::Stopped(Stop::NoInstruction));
-    let gates = gate_run(&mut copy, 0, waits, GateState::start(start), u64::MAX);
+    let gates = gate_run(&mut copy, 0, waits, &[], GateState::start(start), u64::MAX);
     assert_eq!(copy, memory, "both engines leave the same memory");
     let pc = result.machine.registers[0];
     lines([
@@ -130,7 +137,7 @@ fn comes_to_halt(mut memory: Vec<u32>, waits: &[u16], start: Machine) -> String 
 /// With its loader fixed, with no word fixed, and with one word more than there are.
 fn holds_a_loader(memory: &[u32], waits: &[u16], start: Machine) -> String {
     let past = memory.len() as u32 + 1;
-    let refused = run(&mut memory.to_vec(), past, waits, start, INSTRUCTIONS);
+    let refused = run(&mut memory.to_vec(), past, waits, 0, start, INSTRUCTIONS);
     let Answer::Refused(refusal) = refused.answer else {
         panic!("a bottom past the memory is refused");
     };
@@ -141,14 +148,14 @@ fn holds_a_loader(memory: &[u32], waits: &[u16], start: Machine) -> String {
 
 fn above_bottom(memory: &[u32], bottom: u32, waits: &[u16], start: Machine) -> String {
     let [mut left, mut copy, mut filed] = [(); 3].map(|()| memory.to_vec());
-    let result = run(&mut left, bottom, waits, start, INSTRUCTIONS);
+    let result = run(&mut left, bottom, waits, 0, start, INSTRUCTIONS);
     let state = GateState::start(start);
-    let gates = gate_run(&mut copy, bottom, waits, state, result.clocks);
+    let gates = gate_run(&mut copy, bottom, waits, &[], state, result.clocks);
     assert_eq!(copy, left, "both engines leave the same memory");
     let mut journal = vec![0; 2 * INSTRUCTIONS as usize];
     let file = file_run(&mut filed, bottom, &mut journal, start, INSTRUCTIONS);
     let words = [&left[LOADER], &left[LOADED_ACCUMULATORS]].map(hex_words);
-    let again = run(&mut left, bottom, waits, start, INSTRUCTIONS);
+    let again = run(&mut left, bottom, waits, 0, start, INSTRUCTIONS);
     lines([
         format!("bottom {bottom}"),
         run_line("run", &result),

@@ -4,6 +4,7 @@
 pub mod arguments;
 pub mod case_words;
 pub mod crosscheck;
+pub mod definition_cases;
 pub mod example;
 pub mod text;
 

@@ -9,3 +9,14 @@ pub fn hex_words(words: &[u32]) -> String {
 pub fn hex_bytes(bytes: &[u8]) -> String {
     bytes.iter().map(|byte| format!("{byte:02x}")).collect()
 }
+
+/// The first numbers of a list, each with a space before it, and how many more there are.
+pub fn first_numbers(numbers: &[u64]) -> String {
+    const SHOWN: usize = 40;
+    let shown = &numbers[..numbers.len().min(SHOWN)];
+    let mut text: String = shown.iter().map(|number| format!(" {number}")).collect();
+    if shown.len() < numbers.len() {
+        text += &format!(" and {} more", numbers.len() - shown.len());
+    }
+    text
+}

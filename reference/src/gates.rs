@@ -1,13 +1,14 @@
 //! The gate machine: document 01's twelve rows, one of them on each clock; document
 //! 02's wait list, which begins again at its end (CR 3); its row 12, in which the
-//! machine stays halted (CR 5); and its bottom of memory, which no store alters (CR 6).
+//! machine stays halted (CR 5); its bottom of memory, which no store alters (CR 6); and
+//! its reset line, held on the clocks that a list names (CR 7).
 
 use crate::gate_alu::gate_alu;
 use crate::instruction::{is_instruction, Instruction, Operand};
 use crate::machine::{Flags, Machine};
-use crate::refusal::{check_memory_and_bottom, check_waits, Refusal};
+use crate::refusal::{check_memory_and_bottom, check_position, check_resets, check_waits, Refusal};
 
-/// Entered when the word read is no instruction, and never left (CR 5).
+/// Entered when the word read is no instruction (CR 5), and left by a reset alone (CR 7).
 pub const HALTED_ROW: u8 = 12;
 
 /// The state between two clocks.
@@ -50,6 +51,16 @@ impl GateState {
     pub fn between_instructions(&self) -> bool {
         self.row == 0
     }
+
+    /// A clock on which reset is held: no row's work is done, and a begun access is
+    /// dropped. The entry it took is used up, as the list position stays (CR 7).
+    fn reset(&mut self) -> Clock {
+        self.registers[0] = 0;
+        self.row = 0;
+        self.begun = false;
+        self.left = 0;
+        Clock::Moved
+    }
 }
 
 #[derive(Clone, Copy, Debug, PartialEq, Eq)]
@@ -65,71 +76,81 @@ pub struct GateResult {
 enum Clock {
     Moved,
     Finished,
-    /// Nothing changed, nor will on any later clock: the address is absent, or the
-    /// machine has halted.
+    /// Nothing changed, nor will on any later clock before a reset: the address is
+    /// absent, or the machine has halted.
     Stuck,
 }
 
-/// Does `clocks` clocks.
+/// Does `clocks` clocks, numbered from 0; on those that `resets` names reset is held.
 pub fn gate_run(
     memory: &mut [u32],
     bottom: u32,
     waits: &[u16],
+    resets: &[u64],
     state: GateState,
     clocks: u64,
 ) -> GateResult {
     let mut result = GateResult {
-        answer: check(memory, bottom, waits, &state),
+        answer: check(memory, bottom, waits, resets, &state),
         state,
         finished: 0,
     };
     if result.answer.is_err() {
         return result;
     }
-    for _ in 0..clocks {
-        match clock(memory, bottom, waits, &mut result.state) {
-            Clock::Moved => {}
-            Clock::Finished => result.finished += 1,
-            Clock::Stuck => break,
-        }
+    let mut resets = resets.iter().copied().peekable();
+    let mut number = 0;
+    while number < clocks {
+        let held = resets.next_if_eq(&number).is_some();
+        let done = if held {
+            result.state.reset()
+        } else {
+            clock(memory, bottom, waits, &mut result.state)
+        };
+        result.finished += u64::from(done == Clock::Finished);
+        number = match done {
+            // The clocks up to the next reset change nothing.
+            Clock::Stuck => resets.peek().copied().unwrap_or(clocks),
+            _ => number + 1,
+        };
     }
     result
 }
 
-/// Advances a lent state by one clock: the checks and outcome of a run of one.
-/// Returns how many instructions finished, 0 or 1.
+/// Advances a lent state by one clock: the checks and outcome of a run of one without
+/// resets. Returns how many instructions finished, 0 or 1.
 pub fn gate_clock(
     memory: &mut [u32],
     bottom: u32,
     waits: &[u16],
     state: &mut GateState,
 ) -> Result<u64, Refusal> {
-    check(memory, bottom, waits, state)?;
+    check(memory, bottom, waits, &[], state)?;
     let clock = clock(memory, bottom, waits, state);
     Ok(u64::from(clock == Clock::Finished))
 }
 
-fn check(memory: &[u32], bottom: u32, waits: &[u16], state: &GateState) -> Result<(), Refusal> {
+/// Reason 22 comes after 3 and before 4 (CR 7).
+fn check(
+    memory: &[u32],
+    bottom: u32,
+    waits: &[u16],
+    resets: &[u64],
+    state: &GateState,
+) -> Result<(), Refusal> {
     check_memory_and_bottom(memory.len(), bottom)?;
     check_waits(waits.len())?;
-    let is_access = matches!(state.row, 1 | 4 | 6 | 9);
-    if state.row > HALTED_ROW
-        || !position_fits(waits.len(), state.position)
-        || state.begun && !is_access
-        || state.begun != (state.left > 0)
-    {
-        return Err(Refusal::BadGateState);
-    }
-    Ok(())
+    check_resets(resets)?;
+    check_state(waits, state)
 }
 
-/// Below the list's length, or 0 for an empty list (CR 3).
-fn position_fits(entries: usize, position: u32) -> bool {
-    if entries == 0 {
-        position == 0
-    } else {
-        (position as usize) < entries
+/// Reason 4.
+fn check_state(waits: &[u16], state: &GateState) -> Result<(), Refusal> {
+    let is_access = matches!(state.row, 1 | 4 | 6 | 9);
+    if state.row > HALTED_ROW || state.begun && !is_access || state.begun != (state.left > 0) {
+        return Err(Refusal::BadGateState);
     }
+    check_position(waits.len(), state.position)
 }
 
 /// One row, or one clock of an access. The rows follow the table whatever the

@@ -5,7 +5,9 @@ pub mod halting;
 pub mod image;
 pub mod looping;
 pub mod pair;
+pub mod position;
 pub mod program;
+pub mod resets;
 pub mod state;
 
 use crate::machine::Flags;

@@ -3,7 +3,7 @@
 use crate::alu::alu;
 use crate::instruction::{is_instruction, Instruction, Operand};
 use crate::machine::Machine;
-use crate::refusal::{check_memory_and_bottom, check_waits, Refusal};
+use crate::refusal::{check_memory_and_bottom, check_position, check_waits, Refusal};
 
 /// How a run ended.
 #[derive(Clone, Copy, Debug, PartialEq, Eq)]
@@ -30,6 +30,8 @@ pub struct RunResult {
     pub ran: u32,
     /// Clocks of the instructions that ran, their waits included.
     pub clocks: u64,
+    /// The list position after the instructions that ran, for a run that goes on.
+    pub position: u32,
 }
 
 /// What one instruction did besides changing the machine.
@@ -46,11 +48,13 @@ pub struct Step {
 }
 
 /// Runs `count` instructions, or fewer if there is a reason to stop before one. The
-/// words of memory below `bottom` do not change (CR 6).
+/// words of memory below `bottom` do not change (CR 6). The first access takes the
+/// entry of the wait list at `position` (CR 7).
 pub fn run(
     memory: &mut [u32],
     bottom: u32,
     waits: &[u16],
+    position: u32,
     start: Machine,
     count: u32,
 ) -> RunResult {
@@ -59,13 +63,12 @@ pub fn run(
         machine: start,
         ran: 0,
         clocks: 0,
+        position,
     };
-    if let Err(refusal) = check(memory.len(), bottom, waits.len()) {
+    if let Err(refusal) = check(memory.len(), bottom, waits.len(), position) {
         result.answer = Answer::Refused(refusal);
         return result;
     }
-    // The list begins again at its end; an empty one has no waits (CR 3).
-    let mut waits = waits.iter().cycle();
     while result.ran < count {
         let step = match step(memory, bottom, &mut result.machine) {
             Ok(step) => step,
@@ -74,21 +77,34 @@ pub fn run(
                 break;
             }
         };
-        let waited: u64 = waits
-            .by_ref()
-            .take(step.accesses)
-            .copied()
-            .map(u64::from)
-            .sum();
+        let waited = wait(waits, &mut result.position, step.accesses);
         result.clocks += step.clocks + waited;
         result.ran += 1;
     }
     result
 }
 
-fn check(words: usize, bottom: u32, entries: usize) -> Result<(), Refusal> {
+fn check(words: usize, bottom: u32, entries: usize, position: u32) -> Result<(), Refusal> {
     check_memory_and_bottom(words, bottom)?;
-    check_waits(entries)
+    check_waits(entries)?;
+    check_position(entries, position)
+}
+
+/// The waits of so many accesses. The list begins again at its end; an empty one has
+/// no waits, and its position stays 0 (CR 3).
+fn wait(waits: &[u16], position: &mut u32, accesses: usize) -> u64 {
+    let mut waited = 0;
+    for _ in 0..accesses {
+        let Some(&wait) = waits.get(*position as usize) else {
+            break;
+        };
+        waited += u64::from(wait);
+        *position += 1;
+        if *position as usize == waits.len() {
+            *position = 0;
+        }
+    }
+    waited
 }
 
 /// Carries out the instruction at r0, or changes nothing and says why not; B's word

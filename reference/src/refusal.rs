@@ -14,6 +14,7 @@ pub enum Refusal {
     NoWords = 1,
     TooManyWords = 2,
     LongWaitList = 3,
+    /// Also of a run's list position (CR 7).
     BadGateState = 4,
     TooManyInstructions = 5,
     ShortJournal = 6,
@@ -28,6 +29,8 @@ pub enum Refusal {
     TrailingBytes = 15,
     /// The bottom exceeds the memory's length (CR 6).
     BottomTooHigh = 21,
+    /// The reset list does not rise strictly (CR 7).
+    ResetsNotRising = 22,
 }
 
 impl Refusal {
@@ -64,6 +67,24 @@ pub(crate) fn check_memory_and_bottom(words: usize, bottom: u32) -> Result<(), R
 pub(crate) fn check_waits(entries: usize) -> Result<(), Refusal> {
     if entries > MOST_WAITS {
         return Err(Refusal::LongWaitList);
+    }
+    Ok(())
+}
+
+/// Reason 22, of a gate run after the wait list: of the whole list, so of numbers that
+/// have no effect too (CR 7).
+pub(crate) fn check_resets(resets: &[u64]) -> Result<(), Refusal> {
+    if resets.windows(2).any(|pair| pair[0] >= pair[1]) {
+        return Err(Refusal::ResetsNotRising);
+    }
+    Ok(())
+}
+
+/// The part of reason 4 that the interpreter has too (CR 7): the list position is below
+/// the list's length, or 0 for an empty list (CR 3).
+pub(crate) fn check_position(entries: usize, position: u32) -> Result<(), Refusal> {
+    if position as usize >= entries.max(1) {
+        return Err(Refusal::BadGateState);
     }
     Ok(())
 }

@@ -37,7 +37,7 @@ fn vectors_through_the_interpreter() {
         let word = u32::from(v.operation) << 16 | 0x3C41;
         let digits = if v.carry_in { "1000" } else { "0000" };
         let start = machine(&[(1, v.a), (2, v.b)], digits);
-        let result = run(&mut [word], 0, &[], start, 1);
+        let result = run(&mut [word], 0, &[], 0, start, 1);
         assert_eq!(result.answer, Answer::Finished);
         assert_eq!(result.machine.registers[2], v.result);
         assert_eq!(result.machine.flags.carry, v.carry);

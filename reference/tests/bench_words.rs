@@ -139,7 +139,7 @@ fn ruled_out() -> Vec<Case> {
 
 fn check_interpreter(case: &Case) {
     let mut memory = case.memory;
-    let result = run(&mut memory, 0, case.waits, case.start, 1);
+    let result = run(&mut memory, 0, case.waits, 0, case.start, 1);
     assert_eq!(result.answer, Answer::Finished);
     assert_eq!(result.machine, case.end, "{:08X}", case.memory[0]);
     assert_eq!(memory, case.left, "{:08X}", case.memory[0]);
@@ -149,7 +149,7 @@ fn check_interpreter(case: &Case) {
 fn check_gates(case: &Case) {
     let start = GateState::start(case.start);
     let mut memory = case.memory;
-    let result = gate_run(&mut memory, 0, case.waits, start, case.clocks);
+    let result = gate_run(&mut memory, 0, case.waits, &[], start, case.clocks);
     assert_eq!(result.answer, Ok(()));
     assert_eq!(result.finished, 1);
     assert!(result.state.between_instructions());
@@ -157,7 +157,7 @@ fn check_gates(case: &Case) {
     assert_eq!(memory, case.left);
     for clocks in [case.clocks - 1, case.clocks + 1] {
         let mut memory = case.memory;
-        let result = gate_run(&mut memory, 0, case.waits, start, clocks);
+        let result = gate_run(&mut memory, 0, case.waits, &[], start, clocks);
         assert!(!result.state.between_instructions(), "clock {clocks}");
     }
 }
@@ -172,6 +172,7 @@ fn bench_words_on_interpreter_and_gate_machine() {
             memory: case.memory.to_vec(),
             bottom: 0,
             waits: case.waits.to_vec(),
+            position: 0,
             start: case.start,
             count: 3,
         };
@@ -182,10 +183,10 @@ fn bench_words_on_interpreter_and_gate_machine() {
 #[test]
 fn last_word_runs_and_the_next_is_outside() {
     let mut memory = [0; 4];
-    let at_3 = run(&mut memory, 0, &[], machine(&[(0, 3)], "0000"), 1);
+    let at_3 = run(&mut memory, 0, &[], 0, machine(&[(0, 3)], "0000"), 1);
     assert_eq!((at_3.answer, at_3.ran), (Answer::Finished, 1));
     let at_4 = machine(&[(0, 4)], "0000");
-    let result = run(&mut memory, 0, &[], at_4, 1);
+    let result = run(&mut memory, 0, &[], 0, at_4, 1);
     assert_eq!((result.answer, result.ran), (OUTSIDE, 0));
     assert_eq!((result.machine, result.clocks), (at_4, 0));
 }
@@ -196,7 +197,7 @@ fn outside_leaves_the_machine_before_the_instruction() {
     let memory = [0x0003_3E51, 0, 0, 0];
     let start = machine(&[(1, 4), (2, 5)], "1010");
     let mut after = memory;
-    let result = run(&mut after, 0, &[9, 9, 9], start, 7);
+    let result = run(&mut after, 0, &[9, 9, 9], 0, start, 7);
     assert_eq!((result.answer, result.ran), (OUTSIDE, 0));
     assert_eq!((result.machine, result.clocks), (start, 0));
     assert_eq!(after, memory);
@@ -206,14 +207,14 @@ fn outside_leaves_the_machine_before_the_instruction() {
 fn b_must_be_present_even_where_nothing_is_stored() {
     // Move if C, with C 0, to the word r2 points at.
     let start = machine(&[(2, 4)], "0000");
-    let result = run(&mut [0x0001_8141, 0, 0, 0], 0, &[], start, 1);
+    let result = run(&mut [0x0001_8141, 0, 0, 0], 0, &[], 0, start, 1);
     assert_eq!((result.answer, result.ran), (OUTSIDE, 0));
 }
 
 #[test]
 fn a_run_of_none_is_finished_wherever_r0_is() {
     let start = machine(&[(0, 99)], "0110");
-    let result = run(&mut [5], 0, &[1], start, 0);
+    let result = run(&mut [5], 0, &[1], 0, start, 0);
     assert_eq!((result.answer, result.machine), (Answer::Finished, start));
     assert_eq!((result.ran, result.clocks), (0, 0));
 }

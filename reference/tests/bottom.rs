@@ -59,7 +59,7 @@ fn the_interpreter_gives_a_store_below_its_clocks_flags_and_steps() {
         for bottom in 0..=LENGTH {
             let (lent, start) = store(b, before);
             let mut memory = lent.clone();
-            let result = run(&mut memory, bottom, &[1, 2, 3, 7], start, 2);
+            let result = run(&mut memory, bottom, &[1, 2, 3, 7], 0, start, 2);
             assert_eq!((result.answer, result.ran), (Answer::Finished, 2));
             assert_eq!(result.clocks, 10 + 1 + 2 + 3 + 9 + 7);
             let registers = [(0, 2), (1, start.registers[1]), (2, after), (3, 1)];
@@ -105,11 +105,19 @@ fn a_store_to_a_register_is_done() {
     for bottom in 0..=LENGTH {
         let (lent, start) = store(Operand::Direct(2), ADDRESS);
         let mut memory = lent.clone();
-        let result = run(&mut memory, bottom, &[1, 2], start, 1);
+        let result = run(&mut memory, bottom, &[1, 2], 0, start, 1);
         assert_eq!((result.clocks, result.ran), (9 + 1, 1));
         let sum = ADDRESS.wrapping_sub(50);
         assert_eq!(result.machine.registers[2], sum);
-        let state = gate_run(&mut memory, bottom, &[1, 2], GateState::start(start), 10).state;
+        let state = gate_run(
+            &mut memory,
+            bottom,
+            &[1, 2],
+            &[],
+            GateState::start(start),
+            10,
+        )
+        .state;
         assert_eq!((state.machine(), state.row), (result.machine, 0));
         assert_eq!(memory, lent);
     }
@@ -122,7 +130,7 @@ fn a_failed_condition_has_no_store_below() {
     let start = machine(&[(1, 9), (2, ADDRESS)], "0000");
     for bottom in [0, ADDRESS, LENGTH] {
         let mut memory = vec![0x0001_8141, INCREMENT, 0, 0, 0, 50, 0, 0];
-        let result = run(&mut memory, bottom, &[1, 2, 3], start, 2);
+        let result = run(&mut memory, bottom, &[1, 2, 3], 0, start, 2);
         assert_eq!((result.ran, result.clocks), (2, 9 + 1 + 2 + 9 + 3));
         assert_eq!(memory[ADDRESS as usize], 50);
     }
@@ -136,7 +144,7 @@ fn words_below_are_read_as_ever() {
     let start = machine(&[(1, 1), (2, 2)], "0000");
     for bottom in 0..=3 {
         let mut memory = lent;
-        let result = run(&mut memory, bottom, &[], start, 2);
+        let result = run(&mut memory, bottom, &[], 0, start, 2);
         assert_eq!((result.answer, result.ran), (Answer::Finished, 2));
         assert_eq!(result.machine.registers[1], 0x1234_5679);
         assert_eq!(result.machine.flags, Flags::default());
@@ -186,9 +194,9 @@ fn answers(bottom: u32) -> [Option<Refusal>; 4] {
     let start = machine(&[(1, 5)], "0000");
     let lent = [add_r1(Operand::Indirect(0)), 7];
     let (mut memory, mut journal) = (lent, [9; 2]);
-    let ran = run(&mut memory, bottom, &[], start, 1);
+    let ran = run(&mut memory, bottom, &[], 0, start, 1);
     let filed = file_run(&mut memory, bottom, &mut journal, start, 1);
-    let gates = gate_run(&mut memory, bottom, &[], GateState::start(start), 10);
+    let gates = gate_run(&mut memory, bottom, &[], &[], GateState::start(start), 10);
     let mut state = GateState::start(start);
     let clock = gate_clock(&mut memory, bottom, &[], &mut state);
     assert_eq!((memory, journal), (lent, [9; 2]));
@@ -245,7 +253,7 @@ fn check_row_9(lent: GateState, bottom: u32, waits: [u16; 3]) {
     }
     let after = |clocks| {
         let mut memory = words;
-        let state = gate_run(&mut memory, bottom, &waits, lent, clocks).state;
+        let state = gate_run(&mut memory, bottom, &waits, &[], lent, clocks).state;
         (state, memory)
     };
     let clocks = u64::from(wait) + 1;
@@ -286,15 +294,16 @@ fn outcomes(program: &Program) -> impl PartialEq + std::fmt::Debug {
         memory: lent,
         bottom,
         waits,
+        position,
         start,
         count,
     } = program;
     let [mut memory, mut file_memory, mut gate_memory] = [(); 3].map(|()| lent.clone());
     let mut journal = vec![9; 2 * *count as usize];
-    let ran = run(&mut memory, *bottom, waits, *start, *count);
+    let ran = run(&mut memory, *bottom, waits, *position, *start, *count);
     let filed = file_run(&mut file_memory, *bottom, &mut journal, *start, *count);
-    let state = GateState::start(*start);
-    let gates = gate_run(&mut gate_memory, *bottom, waits, state, ran.clocks);
+    let state = program.gate_start(GateState::default());
+    let gates = gate_run(&mut gate_memory, *bottom, waits, &[], state, ran.clocks);
     for memory in [&memory, &file_memory, &gate_memory] {
         let fixed = *bottom as usize;
         assert_eq!(memory[..fixed], lent[..fixed], "{program:X?}");
@@ -335,7 +344,7 @@ fn a_program_cannot_change_what_runs_below() {
     let lent = [0x0000_0141, INCREMENT];
     for (bottom, ran) in [(0, 1), (1, 1), (2, 2)] {
         let mut memory = lent;
-        let result = run(&mut memory, bottom, &[], start, 3);
+        let result = run(&mut memory, bottom, &[], 0, start, 3);
         assert_eq!(result.ran, ran);
         assert_eq!(result.answer == OUTSIDE, bottom == 2);
         assert_eq!(memory[1] == INCREMENT, bottom == 2);

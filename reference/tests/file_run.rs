@@ -39,6 +39,7 @@ fn check(program: &Program, spare: usize) -> bool {
         &mut run_memory,
         program.bottom,
         &[],
+        0,
         program.start,
         program.count,
     );
@@ -91,6 +92,7 @@ fn an_address_stored_twice_goes_back_to_its_first_word() {
         memory,
         bottom: 0,
         waits: vec![],
+        position: 0,
         start: machine(&[(1, 5), (2, 3), (3, 6), (4, 99)], "0000"),
         count: 9,
     };
@@ -105,6 +107,7 @@ fn a_store_of_an_equal_word_is_journaled() {
         memory: vec![0x0000_0339, 0, 7, 0],
         bottom: 0,
         waits: vec![],
+        position: 0,
         start: machine(&[(1, 2)], "0000"),
         count: 1,
     };

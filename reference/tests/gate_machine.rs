@@ -23,7 +23,7 @@ fn runs_in_parts_equal_one_run() {
         let state = gate_state(&mut rng, words.len(), waits.len());
         let clocks = rng.between(0, 150) as u64;
         let mut whole_memory = words.clone();
-        let whole = gate_run(&mut whole_memory, bottom, &waits, state, clocks);
+        let whole = gate_run(&mut whole_memory, bottom, &waits, &[], state, clocks);
 
         let mut memory = words.clone();
         let mut parts = GateResult {
@@ -34,7 +34,7 @@ fn runs_in_parts_equal_one_run() {
         let mut left = clocks;
         while left > 0 {
             let part = 1 + rng.below(left as usize) as u64;
-            let result = gate_run(&mut memory, bottom, &waits, parts.state, part);
+            let result = gate_run(&mut memory, bottom, &waits, &[], parts.state, part);
             parts.state = result.state;
             parts.finished += result.finished;
             left -= part;
@@ -57,7 +57,7 @@ fn single_clocks_equal_one_run() {
         let start = gate_state(&mut rng, words.len(), waits.len());
         let clocks = rng.between(0, 100) as u64;
         let mut whole_memory = words.clone();
-        let whole = gate_run(&mut whole_memory, bottom, &waits, start, clocks);
+        let whole = gate_run(&mut whole_memory, bottom, &waits, &[], start, clocks);
 
         let mut memory = words.clone();
         let mut state = start;
@@ -186,12 +186,12 @@ fn an_access_completes_on_clock_1_plus_w() {
             position: 1,
             ..GateState::default()
         };
-        let before = gate_run(&mut [0x58], 0, &waits, start, u64::from(wait));
+        let before = gate_run(&mut [0x58], 0, &waits, &[], start, u64::from(wait));
         assert_eq!(before.state.row, 1);
         assert_eq!(before.state.instruction, 0);
         assert_eq!(before.state.begun, wait > 0);
         assert_eq!(before.state.left, u16::from(wait > 0));
-        let after = gate_run(&mut [0x58], 0, &waits, start, u64::from(wait) + 1);
+        let after = gate_run(&mut [0x58], 0, &waits, &[], start, u64::from(wait) + 1);
         let due = GateState {
             row: 2,
             position: 2,
@@ -216,7 +216,7 @@ fn an_absent_address_is_never_acknowledged() {
             };
             let mut memory = [3, 4];
             for (clocks, bottom) in [(1, 0), (2, 1), (1_000, 2), (u64::MAX, 0), (u64::MAX, 2)] {
-                let result = gate_run(&mut memory, bottom, &[0, 6], start, clocks);
+                let result = gate_run(&mut memory, bottom, &[0, 6], &[], start, clocks);
                 assert_eq!((result.answer, result.finished), (Ok(()), 0));
                 assert_eq!(result.state, start);
             }
@@ -230,7 +230,7 @@ fn a_run_of_no_clocks_changes_nothing() {
     let mut rng = Rng::new(8);
     for _ in 0..1_000 {
         let state = gate_state(&mut rng, 8, 8);
-        let result = gate_run(&mut [0; 8], 0, &[1; 8], state, 0);
+        let result = gate_run(&mut [0; 8], 0, &[1; 8], &[], state, 0);
         let due = GateResult {
             answer: Ok(()),
             state,

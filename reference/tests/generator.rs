@@ -6,9 +6,11 @@ use common::{HALTING, NO_INSTRUCTION};
 use reference::generate::bottom::refused_bottom;
 use reference::generate::looping::looping_program;
 use reference::generate::program::{any_program, program, Kind, Program};
+use reference::generate::resets::{refused_resets, resets};
 use reference::generate::state::{gate_state, refused_gate_state};
 use reference::rng::Rng;
-use reference::{file_run, is_instruction, run, step, Answer, Instruction, Operand, Stop};
+use reference::{file_run, gate_run, is_instruction, run, step};
+use reference::{Answer, GateState, Instruction, Operand, Stop};
 use std::collections::{HashMap, HashSet};
 
 /// What the instructions that really ran had in them.
@@ -104,6 +106,7 @@ fn ending(program: &Program) -> (Option<u32>, Answer, u32) {
         &mut memory,
         program.bottom,
         &program.waits,
+        program.position,
         program.start,
         program.count,
     );
@@ -202,6 +205,100 @@ fn wait_lists_are_absent_short_and_long() {
         seen[3] += usize::from(program.waits.iter().any(|&wait| wait > 1_000));
     }
     assert!(seen.iter().all(|&times| times > 0), "{seen:?}");
+}
+
+#[test]
+fn runs_start_at_the_first_entry_the_last_and_between() {
+    let mut rng = Rng::new(81);
+    let mut times = [0; 3];
+    for _ in 0..2_000 {
+        let program = any_program(&mut rng);
+        let (position, entries) = (program.position as usize, program.waits.len());
+        assert!(position < entries.max(1));
+        let between = position > 0 && position + 1 < entries;
+        let kinds = [position == 0, position + 1 == entries, between];
+        for (times, kind) in times.iter_mut().zip(kinds) {
+            *times += usize::from(kind);
+        }
+    }
+    assert!(times.iter().all(|&times| times > 300), "{times:?}");
+}
+
+/// What the resets of generated lists cut off.
+#[derive(Default)]
+struct Cuts {
+    /// Rows, with whether an access had begun and whether it was complete on that clock.
+    states: HashSet<(u8, bool, bool)>,
+    /// None; on the first clock; on the last; at the end; past it; several in a row.
+    borders: [usize; 6],
+}
+
+impl Cuts {
+    fn record(&mut self, resets: &[u64], clocks: u64) {
+        let has = |number: u64| resets.contains(&number);
+        let kinds = [
+            resets.is_empty(),
+            has(0),
+            clocks > 0 && has(clocks - 1),
+            has(clocks),
+            resets.iter().any(|&number| number > clocks),
+            resets.windows(3).any(|three| three[0] + 2 == three[2]),
+        ];
+        for (times, kind) in self.borders.iter_mut().zip(kinds) {
+            *times += usize::from(kind);
+        }
+    }
+
+    /// Goes through the run of so many clocks.
+    fn run(&mut self, program: &Program, start: GateState, resets: &[u64], clocks: u64) {
+        let (mut memory, mut state) = (program.memory.clone(), start);
+        for number in 0..clocks {
+            let held: &[u64] = if resets.contains(&number) { &[0] } else { &[] };
+            if !held.is_empty() {
+                self.states
+                    .insert((state.row, state.begun, state.left == 1));
+            }
+            let (bottom, waits) = (program.bottom, &program.waits);
+            state = gate_run(&mut memory, bottom, waits, held, state, 1).state;
+        }
+    }
+}
+
+/// In each row, on first clocks, during waits and on their last clocks.
+#[test]
+fn resets_cut_everything_off() {
+    let mut rng = Rng::new(82);
+    let mut cuts = Cuts::default();
+    for _ in 0..5_000 {
+        let program = any_program(&mut rng);
+        let latches = gate_state(&mut rng, program.memory.len(), program.waits.len());
+        let start = program.gate_start(latches);
+        let clocks = rng.between(0, 120) as u64;
+        let resets = resets(&mut rng, &program, start, clocks);
+        assert!(resets.windows(2).all(|pair| pair[0] < pair[1]));
+        cuts.record(&resets, clocks);
+        cuts.run(&program, start, &resets, clocks);
+    }
+    // Thirteen rows without an access begun, and four with one, at its end or before it.
+    assert_eq!(cuts.states.len(), 13 + 2 * 4, "{:?}", cuts.states);
+    let borders = cuts.borders;
+    assert!(borders.iter().all(|&times| times > 300), "{borders:?}");
+}
+
+/// Within the run and past it.
+#[test]
+fn refused_resets_do_not_rise() {
+    let mut rng = Rng::new(83);
+    let (mut equal, mut falling, mut past) = (0, 0, 0);
+    for _ in 0..1_000 {
+        let resets = refused_resets(&mut rng, 50);
+        equal += u32::from(resets.windows(2).any(|pair| pair[0] == pair[1]));
+        falling += u32::from(resets.windows(2).any(|pair| pair[0] > pair[1]));
+        past += u32::from(resets.iter().all(|&number| number > 50));
+    }
+    assert_eq!(equal + falling, 1_000);
+    assert!(equal > 300 && falling > 300, "{equal} {falling}");
+    assert!((300..800).contains(&past), "{past}");
 }
 
 #[test]

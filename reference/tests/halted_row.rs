@@ -71,7 +71,7 @@ fn clocks_up_to_the_halt() {
     for bit in HALTING {
         let word = INCREMENT | bit;
         let waits = [2, 3, 9];
-        let after = |clocks| gate_run(&mut [INCREMENT, word], 0, &waits, start(), clocks);
+        let after = |clocks| gate_run(&mut [INCREMENT, word], 0, &waits, &[], start(), clocks);
         let total = 9 + 2;
         assert_eq!((after(total).finished, after(total).state.row), (1, 0));
         assert_eq!(after(total).state.position, 1);
@@ -109,7 +109,7 @@ fn an_access_begun_before_the_loan_is_completed_too() {
         ..start()
     };
     for bit in HALTING {
-        let after = |clocks| gate_run(&mut [0, bit], 0, &[], lent, clocks).state;
+        let after = |clocks| gate_run(&mut [0, bit], 0, &[], &[], lent, clocks).state;
         assert_eq!((after(1).row, after(1).left), (1, 1));
         let due = GateState {
             row: 12,
@@ -130,7 +130,7 @@ fn an_absent_word_is_not_acknowledged_and_does_not_halt() {
             address: 2,
             ..start()
         };
-        let result = gate_run(&mut [bit; 2], 0, &[1], lent, u64::MAX);
+        let result = gate_run(&mut [bit; 2], 0, &[1], &[], lent, u64::MAX);
         assert_eq!((result.answer, result.state), (Ok(()), lent));
     }
 }
@@ -151,7 +151,7 @@ fn row_12_changes_nothing() {
         };
         let mut memory = words.clone();
         for clocks in [0, 1, 2, u64::MAX] {
-            let result = gate_run(&mut memory, 0, &waits, lent, clocks);
+            let result = gate_run(&mut memory, 0, &waits, &[], lent, clocks);
             assert_eq!((result.answer, result.finished), (Ok(()), 0));
             assert_eq!(result.state, lent);
         }
@@ -172,7 +172,7 @@ fn row_12_is_taken_and_row_13_refused() {
             ..start()
         };
         let lent = state;
-        let run = gate_run(&mut [1, 2], 0, &[], lent, 1);
+        let run = gate_run(&mut [1, 2], 0, &[], &[], lent, 1);
         assert_eq!(run.state, lent);
         let clock = gate_clock(&mut [1, 2], 0, &[], &mut state);
         assert_eq!((clock.map(|_| ()), state), (run.answer, lent));
@@ -202,7 +202,7 @@ fn a_halting_word_in_the_latch_has_no_effect() {
         let [halting, clear] = [rng.pick(&HALTING), 0].map(|bit| {
             lent.instruction = lent.instruction & fields | bit;
             let mut memory = words.clone();
-            let mut result = gate_run(&mut memory, 0, &waits, lent, 1);
+            let mut result = gate_run(&mut memory, 0, &waits, &[], lent, 1);
             let read = lent.row == 1 && result.state.row != 1;
             if !read {
                 assert_eq!(result.state.instruction & !fields, bit);
@@ -227,7 +227,7 @@ fn a_program_may_store_or_repair_one_ahead() {
             let mut memory = [store_ahead, lying];
             // The store takes 10 clocks; then 2 up to the halt, or 9 for the instruction.
             let clocks = if row == 12 { 12 } else { 19 };
-            let result = gate_run(&mut memory, 0, &[], GateState::start(machine), clocks);
+            let result = gate_run(&mut memory, 0, &[], &[], GateState::start(machine), clocks);
             assert_eq!((result.state.row, result.finished), (row, finished));
             assert_eq!(memory, [store_ahead, stored]);
         }

@@ -69,8 +69,8 @@ fn encoding_is_undone_by_decoding() {
 fn in_both(word: u32, before: Flags) -> RunResult {
     let mut start = machine(&[(1, 7)], "0000");
     start.flags = before;
-    let result = run(&mut [word], 0, &[], start, 1);
-    let gates = |clocks| gate_run(&mut [word], 0, &[], GateState::start(start), clocks);
+    let result = run(&mut [word], 0, &[], 0, start, 1);
+    let gates = |clocks| gate_run(&mut [word], 0, &[], &[], GateState::start(start), clocks);
     assert_eq!(gates(result.clocks - 1).finished, 0);
     let whole = gates(result.clocks);
     assert_eq!(whole.finished, 1);
@@ -106,7 +106,7 @@ fn permits() {
     let top = 0x8000_0000;
     let registers = [(1, top), (2, top), (3, top)];
     let flags_after = |word: u32, before| {
-        let result = run(&mut [word], 0, &[], machine(&registers, before), 1);
+        let result = run(&mut [word], 0, &[], 0, machine(&registers, before), 1);
         result.machine.flags
     };
     for permitted in 0..16 {
@@ -130,7 +130,7 @@ fn moves_clear_permitted_carry_and_overflow() {
     for condition in 0..16 {
         let word = condition << 16 | 0xBC41;
         let start = machine(&[(1, 0xFFFF_FFFF), (2, 0xFFFF_FFFF)], "1111");
-        let result = run(&mut [word], 0, &[], start, 1);
+        let result = run(&mut [word], 0, &[], 0, start, 1);
         assert_eq!(result.machine.flags, flags("0010"));
     }
 }

@@ -27,7 +27,7 @@ fn a_run_stops_before_it() {
         let memory = [INCREMENT, INCREMENT, word, INCREMENT];
         let start = machine(&[(1, 5)], "1010");
         let mut after = memory;
-        let result = run(&mut after, 0, &[3, 4, 900], start, 9);
+        let result = run(&mut after, 0, &[3, 4, 900], 0, start, 9);
         assert_eq!(result.answer, NO_INSTRUCTION, "{word:08X}");
         assert_eq!((result.ran, result.clocks), (2, 9 + 3 + 9 + 4));
         assert_eq!(result.machine, machine(&[(0, 2), (1, 7)], "1010"));
@@ -40,7 +40,7 @@ fn a_run_stops_before_it_at_once() {
     for word in halting_words() {
         let start = machine(&[(0, 1), (7, 1)], "0101");
         let mut memory = [INCREMENT, word];
-        let result = run(&mut memory, 0, &[6], start, u32::MAX);
+        let result = run(&mut memory, 0, &[6], 0, start, u32::MAX);
         assert_eq!(result.answer, NO_INSTRUCTION, "{word:08X}");
         assert_eq!((result.ran, result.clocks), (0, 0));
         assert_eq!((result.machine, memory), (start, [INCREMENT, word]));
@@ -49,7 +49,7 @@ fn a_run_stops_before_it_at_once() {
 
 #[test]
 fn a_word_of_all_the_other_bits_runs() {
-    let result = run(&mut [ALL_FIELDS], 0, &[], Machine::default(), 1);
+    let result = run(&mut [ALL_FIELDS], 0, &[], 0, Machine::default(), 1);
     assert_eq!((result.answer, result.ran), (Answer::Finished, 1));
     assert_eq!(result.machine.registers[7], 2);
 }
@@ -58,11 +58,12 @@ fn a_word_of_all_the_other_bits_runs() {
 #[test]
 fn a_run_that_ends_before_it_is_finished() {
     for word in halting_words() {
-        let answer = |count| run(&mut [INCREMENT, word], 0, &[], Machine::default(), count).answer;
+        let answer =
+            |count| run(&mut [INCREMENT, word], 0, &[], 0, Machine::default(), count).answer;
         let answers = [0, 1, 2].map(answer);
         let due = [Answer::Finished, Answer::Finished, NO_INSTRUCTION];
         assert_eq!(answers, due, "{word:08X}");
-        let at_once = run(&mut [word], 0, &[], Machine::default(), 0);
+        let at_once = run(&mut [word], 0, &[], 0, Machine::default(), 0);
         assert_eq!(at_once.answer, Answer::Finished);
     }
 }
@@ -72,7 +73,7 @@ fn a_missing_fetch_address_is_outside() {
     for word in halting_words() {
         for r0 in [2, 3, u32::MAX] {
             let start = machine(&[(0, r0)], "0000");
-            let result = run(&mut [word; 2], 0, &[], start, 1);
+            let result = run(&mut [word; 2], 0, &[], 0, start, 1);
             assert_eq!((result.answer, result.ran), (OUTSIDE, 0));
             assert_eq!(result.machine, start);
         }
@@ -85,7 +86,7 @@ fn its_operands_are_not_looked_at() {
     for fields in [0x0003_0251, 0x0003_0359] {
         for (r1, r2) in [(100, 1), (1, 100), (100, 200)] {
             let start = machine(&[(1, r1), (2, r2)], "0000");
-            let stop = |word| run(&mut [word, 0], 0, &[], start, 1);
+            let stop = |word| run(&mut [word, 0], 0, &[], 0, start, 1);
             for bit in HALTING {
                 let result = stop(fields | bit);
                 assert_eq!((result.answer, result.ran), (NO_INSTRUCTION, 0));
@@ -101,7 +102,7 @@ fn data_may_be_any_word() {
     for word in halting_words() {
         // The constant behind the instruction to r2, then r2 to the word at r3.
         let mut memory = [0x0000_0058, word, 0x0000_0162, INCREMENT, 7];
-        let result = run(&mut memory, 0, &[], machine(&[(3, 4)], "0000"), 3);
+        let result = run(&mut memory, 0, &[], 0, machine(&[(3, 4)], "0000"), 3);
         assert_eq!((result.answer, result.ran), (Answer::Finished, 3));
         assert_eq!((result.machine.registers[2], memory[4]), (word, word));
     }
@@ -116,7 +117,7 @@ fn a_program_may_store_one_ahead() {
         let start = machine(&[(1, word), (2, 1)], "0000");
         let memory = [STORE_AHEAD, INCREMENT, INCREMENT];
         let mut after = memory;
-        let result = run(&mut after, 0, &[], start, 3);
+        let result = run(&mut after, 0, &[], 0, start, 3);
         assert_eq!((result.answer, result.ran), (NO_INSTRUCTION, 1));
         assert_eq!(result.clocks, 10);
         assert_eq!(after, [STORE_AHEAD, word, INCREMENT]);
@@ -135,7 +136,7 @@ fn a_program_may_repair_one_ahead() {
     for word in halting_words() {
         let start = machine(&[(1, INCREMENT), (2, 1)], "0000");
         let mut memory = [STORE_AHEAD, word, 0];
-        let result = run(&mut memory, 0, &[], start, 2);
+        let result = run(&mut memory, 0, &[], 0, start, 2);
         assert_eq!((result.answer, result.ran), (Answer::Finished, 2));
         assert_eq!(result.machine.registers[1], INCREMENT + 1);
 

@@ -24,19 +24,20 @@ fn zeros(words: usize) -> Vec<u32> {
     vec![0; words]
 }
 
-fn run_refusal(memory: &mut [u32], bottom: u32, waits: &[u16], count: u32) -> Option<u8> {
-    let result = run(memory, bottom, waits, start(), count);
+/// Of a run of 5 instructions from a list position.
+fn run_refusal(memory: &mut [u32], bottom: u32, waits: &[u16], position: u32) -> Option<u8> {
+    let result = run(memory, bottom, waits, position, start(), 5);
     let Answer::Refused(refusal) = result.answer else {
         return None;
     };
-    assert_eq!(result.machine, start());
+    assert_eq!((result.machine, result.position), (start(), position));
     assert_eq!((result.ran, result.clocks), (0, 0));
     Some(refusal.number())
 }
 
 /// Of a gate run and of the one-clock call, which have the same reasons.
 fn gate_refusal(memory: &mut [u32], bottom: u32, waits: &[u16], state: GateState) -> Option<u8> {
-    let result = gate_run(memory, bottom, waits, state, 3);
+    let result = gate_run(memory, bottom, waits, &[], state, 3);
     let mut lent = state;
     let clock = gate_clock(memory, bottom, waits, &mut lent);
     assert_eq!(clock.map(|_| ()), result.answer);
@@ -77,9 +78,10 @@ fn numbers_are_those_of_the_papers() {
         Refusal::ShortMemory,
         Refusal::TrailingBytes,
         Refusal::BottomTooHigh,
+        Refusal::ResetsNotRising,
     ];
     let numbers: Vec<u8> = all.iter().map(|refusal| refusal.number()).collect();
-    let due: Vec<u8> = (1..=15).chain([21]).collect();
+    let due: Vec<u8> = (1..=15).chain([21, 22]).collect();
     assert_eq!(numbers, due);
 }
 
@@ -87,17 +89,30 @@ fn numbers_are_those_of_the_papers() {
 fn interpreter() {
     let long_list = vec![0; 65_537];
     assert_eq!(run_refusal(&mut [], 0, &[], 0), Some(1));
-    assert_eq!(run_refusal(&mut [], 1, &long_list, 5), Some(1));
     let mut long = zeros(TOO_LONG);
-    assert_eq!(run_refusal(&mut long, 0, &long_list, 5), Some(2));
-    assert_eq!(run_refusal(&mut long, PAST + 1, &long_list, 5), Some(2));
-    assert_eq!(run_refusal(&mut long[1..], PAST, &long_list, 5), Some(21));
-    let memory = &mut long[1..];
-    assert_eq!(run_refusal(memory, PAST - 1, &long_list, 5), Some(3));
-    assert_eq!(run_refusal(memory, PAST - 1, &long_list[1..], 5), None);
+    // A position past either list is the last of the reasons.
+    for position in [0, 65_537, u32::MAX] {
+        assert_eq!(run_refusal(&mut [], 1, &long_list, position), Some(1));
+        let refusal =
+            |memory: &mut [u32], bottom| run_refusal(memory, bottom, &long_list, position);
+        assert_eq!(refusal(&mut long, 0), Some(2));
+        assert_eq!(refusal(&mut long, PAST + 1), Some(2));
+        assert_eq!(refusal(&mut long[1..], PAST), Some(21));
+        assert_eq!(refusal(&mut long[1..], PAST - 1), Some(3));
+        let due = if position == 0 { None } else { Some(4) };
+        let longest = &long_list[1..];
+        assert_eq!(
+            run_refusal(&mut long[1..], PAST - 1, longest, position),
+            due
+        );
+    }
     let mut memory = [3, 4, 5, 6];
-    assert_eq!(run_refusal(&mut memory, 5, &long_list, 5), Some(21));
-    assert_eq!(run_refusal(&mut memory, 4, &long_list, 5), Some(3));
+    assert_eq!(run_refusal(&mut memory, 5, &long_list, 0), Some(21));
+    assert_eq!(run_refusal(&mut memory, 4, &long_list, 0), Some(3));
+    assert_eq!(
+        run_refusal(&mut memory, 4, &long_list[1..], 65_536),
+        Some(4)
+    );
     assert_eq!(memory, [3, 4, 5, 6]);
 }
 
@@ -143,7 +158,8 @@ fn gate_states() {
     }
 }
 
-/// CR 3: the position is below the list's length, or 0 for an empty list.
+/// CR 3: the position is below the list's length, or 0 for an empty list; of the gate
+/// state and, with CR 7, of the interpreter's run.
 #[test]
 fn list_positions() {
     let refusal = |entries, position| {
@@ -152,7 +168,10 @@ fn list_positions() {
             position,
             ..GateState::default()
         };
-        gate_refusal(&mut [7; 4], 0, &vec![1; entries], state)
+        let waits = vec![1; entries];
+        let gates = gate_refusal(&mut [7; 4], 0, &waits, state);
+        assert_eq!(run_refusal(&mut [7; 4], 0, &waits, position), gates);
+        gates
     };
     for entries in [0, 1, 2, 5, 65_535, 65_536] {
         let end = entries.max(1) as u32;

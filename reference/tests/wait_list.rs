@@ -8,7 +8,7 @@ use reference::{gate_run, run, GateState};
 /// Lists as short as boards have them.
 const LENGTHS: [usize; 4] = [1, 2, 3, 5];
 
-/// More than the accesses of the runs below.
+/// More than the accesses of the runs below, and a list's entries before the first.
 const ACCESSES: usize = 400;
 
 fn short_list(rng: &mut Rng) -> Vec<u16> {
@@ -32,10 +32,13 @@ fn a_run_takes_the_clocks_that_it_takes_under_the_list_written_out() {
             ..
         } = any_program(&mut rng);
         let waits = short_list(&mut rng);
-        let [turning, long] = [&waits, &unrolled(&waits)].map(|waits| {
+        let position = rng.below(waits.len()) as u32;
+        let [turning, mut long] = [&waits, &unrolled(&waits)].map(|waits| {
             let mut memory = memory.clone();
-            (run(&mut memory, bottom, waits, start, count), memory)
+            let result = run(&mut memory, bottom, waits, position, start, count);
+            (result, memory)
         });
+        long.0.position %= waits.len() as u32;
         assert_eq!(turning, long);
     }
 }
@@ -50,7 +53,10 @@ fn a_gate_run_goes_as_under_the_list_written_out() {
         let clocks = rng.between(0, 300) as u64;
         let [turning, mut long] = [&waits, &unrolled(&waits)].map(|waits| {
             let mut memory = memory.clone();
-            (gate_run(&mut memory, bottom, waits, start, clocks), memory)
+            (
+                gate_run(&mut memory, bottom, waits, &[], start, clocks),
+                memory,
+            )
         });
         long.0.state.position %= waits.len() as u32;
         assert_eq!(turning, long);
@@ -69,7 +75,7 @@ fn the_last_entry_leads_to_the_first() {
             };
             let mut waits = vec![9; entries as usize];
             waits[entries as usize - 1] = wait;
-            let result = gate_run(&mut [8], 0, &waits, start, 1);
+            let result = gate_run(&mut [8], 0, &waits, &[], start, 1);
             let due = GateState {
                 row: if wait == 0 { 5 } else { 4 },
                 a: if wait == 0 { 8 } else { 0 },
@@ -89,13 +95,13 @@ fn five_entries_by_hand() {
     let program = [0x0000_0129; 5]; // move (r1),(r1): 11 clocks, 4 accesses
     let waits = [1, 2, 3, 4, 5];
     let mut memory = program;
-    let result = run(&mut memory, 0, &waits, Default::default(), 5);
+    let result = run(&mut memory, 0, &waits, 0, Default::default(), 5);
     assert_eq!((result.ran, result.clocks), (5, 5 * 11 + 4 * 15));
     let total = result.clocks;
     for (clocks, finished) in [(total - 1, 4), (total, 5)] {
         let mut memory = program;
         let state = GateState::start(Default::default());
-        let result = gate_run(&mut memory, 0, &waits, state, clocks);
+        let result = gate_run(&mut memory, 0, &waits, &[], state, clocks);
         assert_eq!(result.finished, finished);
         assert_eq!(result.state.position, 0);
     }
@@ -112,13 +118,16 @@ fn an_empty_list_has_no_waits() {
             count,
             ..
         } = any_program(&mut rng);
-        let [none, zeros] = [&[][..], &[0, 0, 0]].map(|waits| {
+        let [none, mut zeros] = [&[][..], &[0, 0, 0]].map(|waits| {
             let mut memory = memory.clone();
-            (run(&mut memory, bottom, waits, start, count), memory)
+            (run(&mut memory, bottom, waits, 0, start, count), memory)
         });
+        assert_eq!(none.0.position, 0);
+        // A list of zeros differs in its position alone.
+        zeros.0.position = 0;
         assert_eq!(none, zeros);
         let state = GateState::start(start);
-        let result = gate_run(&mut memory.clone(), bottom, &[], state, none.0.clocks);
+        let result = gate_run(&mut memory.clone(), bottom, &[], &[], state, none.0.clocks);
         assert_eq!(result.finished, u64::from(none.0.ran));
         assert_eq!(result.state.position, 0);
     }

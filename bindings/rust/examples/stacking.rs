@@ -1,6 +1,6 @@
 //! Stacks the traces of an image under a wait list, rolls a file back, runs into a word
-//! that is no instruction, and stores into a loader on a board that holds it, and on one
-//! that does not.
+//! that is no instruction, stores into a loader on a board that holds it, and on one that
+//! does not, and restarts a drifted sledge by its reset line.
 //! Usage: `stacking FOLDER`, the folder of the example images.
 
 use fm8502::{file_run, gate_run, read_image, run};
@@ -13,6 +13,11 @@ const TRACE_COUNT: usize = 0x0F;
 const ACCUMULATORS: std::ops::Range<usize> = 0x10..0x18;
 /// Of loader.image; as many accumulators lie behind it.
 const LOADER_WORDS: usize = 4;
+/// A clock on which restart.image is stuck.
+const RESET: u64 = 1000;
+/// Of the instructions after it.
+const FIRST_PART: u32 = 40;
+const RESTARTED_ACCUMULATORS: std::ops::Range<usize> = 0x14..0x18;
 
 fn main() -> io::Result<()> {
     let folder = PathBuf::from(env::args().nth(1).unwrap_or("examples".into()));
@@ -24,7 +29,9 @@ fn main() -> io::Result<()> {
     let (mut memory, machine) = load(&folder, "halted.image")?;
     halt(&mut memory, &waits, machine).map_err(io::Error::other)?;
     let (mut memory, machine) = load(&folder, "loader.image")?;
-    store_into_loader(&mut memory, &waits, machine).map_err(io::Error::other)
+    store_into_loader(&mut memory, &waits, machine).map_err(io::Error::other)?;
+    let (memory, machine) = load(&folder, "restart.image")?;
+    restart(&memory, &waits, machine).map_err(io::Error::other)
 }
 
 fn load_waits(path: &Path) -> io::Result<Vec<u16>> {
@@ -47,12 +54,13 @@ fn load(folder: &Path, name: &str) -> io::Result<(Vec<u32>, Machine)> {
 fn stack(memory: &mut [u32], waits: &[u16], start: Machine) -> Result<(), Refused> {
     let mut copy = memory.to_vec();
     let mut machine = start;
-    let ran = run_interpreter("run", memory, 0, waits, &mut machine)?;
+    let ran = run_interpreter("run", memory, 0, waits, 0, &mut machine)?;
     println!("flags {}", digits(machine.flags));
     println!("registers{}", words(&machine.registers));
     println!("traces {}", memory[TRACE_COUNT]);
     println!("accumulators{}", words(&memory[ACCUMULATORS]));
-    run_gates(&mut copy, 0, waits, start, ran.clocks)
+    run_gates(&mut copy, 0, waits, &[], start, ran.clocks)?;
+    Ok(())
 }
 
 fn run_interpreter(
@@ -60,9 +68,10 @@ fn run_interpreter(
     memory: &mut [u32],
     bottom: u32,
     waits: &[u16],
+    position: u32,
     machine: &mut Machine,
 ) -> Result<Run, Refused> {
-    let ran = run(memory, bottom, waits, machine, INSTRUCTIONS)?;
+    let ran = run(memory, bottom, waits, position, machine, INSTRUCTIONS)?;
     let ending = match (ran.finished, ran.halted) {
         (true, _) => "finished",
         (false, true) => "no instruction",
@@ -79,13 +88,14 @@ fn run_gates(
     memory: &mut [u32],
     bottom: u32,
     waits: &[u16],
+    resets: &[u64],
     start: Machine,
     clocks: u64,
-) -> Result<(), Refused> {
+) -> Result<GateState, Refused> {
     let mut state = GateState::start(start);
-    let finished = gate_run(memory, bottom, waits, &mut state, clocks)?;
+    let finished = gate_run(memory, bottom, waits, resets, &mut state, clocks)?;
     println!("gate machine: {finished} instructions, row {}", state.row);
-    Ok(())
+    Ok(state)
 }
 
 /// The run, and its journal.
@@ -109,11 +119,8 @@ fn roll_back(memory: &mut [u32], start: Machine) -> Result<(), Refused> {
     let mut machine = start;
     let (ran, mut journal) = run_file(memory, 0, &mut machine)?;
     println!("journal{}", words(&journal[..2 * ran.pairs as usize]));
-    let same = memory == former && machine == start;
-    println!(
-        "memory and machine as before: {}",
-        if same { "yes" } else { "no" }
-    );
+    let same = yes_or_no(memory == former && machine == start);
+    println!("memory and machine as before: {same}");
 
     let short = file_run(memory, 0, &mut journal[..9], &mut machine, INSTRUCTIONS);
     if let Err(Refused(number)) = short {
@@ -125,10 +132,11 @@ fn roll_back(memory: &mut [u32], start: Machine) -> Result<(), Refused> {
 fn halt(memory: &mut [u32], waits: &[u16], start: Machine) -> Result<(), Refused> {
     let mut copy = memory.to_vec();
     let mut machine = start;
-    run_interpreter("run", memory, 0, waits, &mut machine)?;
+    run_interpreter("run", memory, 0, waits, 0, &mut machine)?;
     let pc = machine.registers[0];
     println!("next{}", words(&[pc, memory[pc as usize]]));
-    run_gates(&mut copy, 0, waits, start, u64::MAX)
+    run_gates(&mut copy, 0, waits, &[], start, u64::MAX)?;
+    Ok(())
 }
 
 fn store_into_loader(memory: &mut [u32], waits: &[u16], start: Machine) -> Result<(), Refused> {
@@ -137,7 +145,7 @@ fn store_into_loader(memory: &mut [u32], waits: &[u16], start: Machine) -> Resul
     }
     let past = memory.len() as u32 + 1;
     let mut machine = start;
-    if let Err(Refused(number)) = run(memory, past, waits, &mut machine, INSTRUCTIONS) {
+    if let Err(Refused(number)) = run(memory, past, waits, 0, &mut machine, INSTRUCTIONS) {
         println!("bottom {past}: refused {number}");
     }
     Ok(())
@@ -148,14 +156,73 @@ fn run_on_board(memory: &[u32], bottom: u32, waits: &[u16], start: Machine) -> R
     println!("bottom {bottom}");
     let mut left = memory.to_vec();
     let [mut first, mut file, mut second] = [start; 3];
-    let ran = run_interpreter("run", &mut left, bottom, waits, &mut first)?;
+    let ran = run_interpreter("run", &mut left, bottom, waits, 0, &mut first)?;
     let (loader, behind) = left.split_at(LOADER_WORDS);
     println!("loader{}", words(loader));
     println!("accumulators{}", words(&behind[..LOADER_WORDS]));
-    run_gates(&mut memory.to_vec(), bottom, waits, start, ran.clocks)?;
+    run_gates(&mut memory.to_vec(), bottom, waits, &[], start, ran.clocks)?;
     run_file(&mut memory.to_vec(), bottom, &mut file)?;
-    run_interpreter("again", &mut left, bottom, waits, &mut second)?;
+    run_interpreter("again", &mut left, bottom, waits, 0, &mut second)?;
     Ok(())
+}
+
+/// A drifted sledge is stuck until a reset; then both engines go on alike.
+fn restart(memory: &[u32], waits: &[u16], start: Machine) -> Result<(), Refused> {
+    let [mut drifted, mut stuck, mut left, mut copy] = [(); 4].map(|()| memory.to_vec());
+    let mut machine = start;
+    run_interpreter("run", &mut drifted, 0, waits, 0, &mut machine)?;
+    run_gates(&mut stuck, 0, waits, &[], start, RESET)?;
+    println!("reset on clock {RESET}");
+    let state = run_gates(&mut left, 0, waits, &[RESET], start, RESET + 1)?;
+    println!("position {}", state.position);
+
+    let mut parts = left.clone();
+    let position = state.position;
+    machine = state.machine;
+    let ran = run_interpreter("restarted", &mut left, 0, waits, position, &mut machine)?;
+    println!("position {}", ran.position);
+    println!("accumulators{}", words(&left[RESTARTED_ACCUMULATORS]));
+    run_in_parts(&mut parts, waits, state)?;
+    // The clocks of a run count from 0, so its number of clocks is past the last of them.
+    let clocks = RESET + 1 + ran.clocks;
+    let gates = run_gates(&mut copy, 0, waits, &[RESET, clocks], start, clocks)?;
+    let same = yes_or_no(copy == left && gates.machine == machine);
+    println!("memory and machine as the interpreter's: {same}");
+    refuse_resets(memory, waits, start);
+    Ok(())
+}
+
+/// The interpreter from a state in row 0, in two parts: the second goes on where the first
+/// left off.
+fn run_in_parts(memory: &mut [u32], waits: &[u16], start: GateState) -> Result<(), Refused> {
+    let mut machine = start.machine;
+    let first = run(memory, 0, waits, start.position, &mut machine, FIRST_PART)?;
+    let rest = INSTRUCTIONS - FIRST_PART;
+    let second = run(memory, 0, waits, first.position, &mut machine, rest)?;
+    println!(
+        "in two parts: {} instructions, {} clocks, position {}",
+        first.ran + second.ran,
+        first.clocks + second.clocks,
+        second.position
+    );
+    Ok(())
+}
+
+fn refuse_resets(memory: &[u32], waits: &[u16], start: Machine) {
+    let (mut copy, mut state) = (memory.to_vec(), GateState::start(start));
+    let twice = [RESET, RESET];
+    let ran = gate_run(&mut copy, 0, waits, &twice, &mut state, RESET + 1);
+    if let Err(Refused(number)) = ran {
+        println!("resets {RESET} {RESET}: refused {number}");
+    }
+}
+
+fn yes_or_no(answer: bool) -> &'static str {
+    if answer {
+        "yes"
+    } else {
+        "no"
+    }
 }
 
 fn words(words: &[u32]) -> String {

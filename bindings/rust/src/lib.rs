@@ -27,6 +27,8 @@ pub struct Run {
     pub ran: u32,
     /// Clock total of the instructions that ran, their waits included.
     pub clocks: u64,
+    /// List position after the instructions that ran, for a run that goes on.
+    pub position: u32,
 }
 
 /// How a file run ended.
@@ -48,26 +50,39 @@ fn carried_out(code: u32) -> Result<u32, Refused> {
     }
 }
 
-/// Runs up to `count` instructions with the wait list, from its beginning. Each access
-/// to memory takes the next entry and waits so many clocks; after the last entry the
-/// list begins again, and an empty list means no waits.
+/// Runs up to `count` instructions with the wait list, from a `position` in it: below
+/// its length, or 0. Each access to memory takes the next entry and waits so many
+/// clocks; after the last entry the list begins again, and an empty list means no waits.
+///
+/// To go on, give the next run the memory and machine that were left, and
+/// [`Run::position`]. To go on from a [`GateState`] in row 0, as a reset leaves it,
+/// give it the state's `machine` and `position`.
 pub fn run(
     memory: &mut [u32],
     bottom: u32,
     waits: &[u16],
+    position: u32,
     machine: &mut Machine,
     count: u32,
 ) -> Result<Run, Refused> {
     let mut words = machine.to_words();
-    let mut result = [0u64; 2];
-    let code = library::run(memory, bottom, waits, &mut words, count, &mut result);
-    let code = carried_out(code)?;
+    let mut result = [0u64; 3];
+    let code = carried_out(library::run(
+        memory,
+        bottom,
+        waits,
+        position,
+        &mut words,
+        count,
+        &mut result,
+    ))?;
     *machine = Machine::from_words(&words);
     Ok(Run {
         finished: code == library::DONE,
         halted: code == library::HALTED,
         ran: result[0] as u32,
         clocks: result[1],
+        position: result[2] as u32,
     })
 }
 
@@ -94,11 +109,21 @@ pub fn file_run(
 }
 
 /// Does `clocks` clocks of the gate machine, with the wait list as for [`run`], but
-/// from the state's position; returns the instructions finished.
+/// from the state's position; returns the instructions finished, before a reset too.
+///
+/// `resets` has the numbers of the clocks on which the reset line is held, each above
+/// the one before. They count from 0 at the beginning of this run, and anew in a run
+/// that follows on; numbers at or past `clocks` have no effect. A reset clock does no
+/// row's work: r0 and the row become 0, and an access that has begun is dropped, its
+/// wait entry used up. The other registers, flags, latches, list position and memory
+/// stay, with all that the cut instruction has done to them; it does not count as
+/// finished. On the next clock the machine begins with the instruction at address 0,
+/// also where a missing word or row 12 had held it.
 pub fn gate_run(
     memory: &mut [u32],
     bottom: u32,
     waits: &[u16],
+    resets: &[u64],
     state: &mut GateState,
     clocks: u64,
 ) -> Result<u64, Refused> {
@@ -108,6 +133,7 @@ pub fn gate_run(
         memory,
         bottom,
         waits,
+        resets,
         &mut words,
         clocks,
         &mut result,
@@ -116,7 +142,8 @@ pub fn gate_run(
     Ok(result[0])
 }
 
-/// Does one clock of the gate machine; returns whether an instruction finished.
+/// Does one clock of the gate machine, without a reset; returns whether an instruction
+/// finished.
 pub fn clock(
     memory: &mut [u32],
     bottom: u32,

@@ -25,6 +25,7 @@ mod raw {
             bottom: u32,
             waits: *const u16,
             waits_entries: usize,
+            position: u32,
             machine: *mut u32,
             machine_words: usize,
             count: u32,
@@ -49,6 +50,8 @@ mod raw {
             bottom: u32,
             waits: *const u16,
             waits_entries: usize,
+            resets: *const u64,
+            resets_numbers: usize,
             state: *mut u32,
             state_words: usize,
             clocks: u64,
@@ -93,12 +96,13 @@ mod raw {
 // borrowed for the call, mutably where the library may write, and the library
 // is proved to stay within them.
 
-/// `machine`: [`MACHINE_SIZE`] words, r0 to r7, C, V, N, Z. `result`: instructions
-/// that ran, clock total.
+/// `position`: of the first entry of `waits` to take. `machine`: [`MACHINE_SIZE`] words,
+/// r0 to r7, C, V, N, Z. `result`: instructions that ran, clock total, position after.
 pub fn run(
     memory: &mut [u32],
     bottom: u32,
     waits: &[u16],
+    position: u32,
     machine: &mut [u32],
     count: u32,
     result: &mut [u64],
@@ -110,6 +114,7 @@ pub fn run(
             bottom,
             waits.as_ptr(),
             waits.len(),
+            position,
             machine.as_mut_ptr(),
             machine.len(),
             count,
@@ -145,12 +150,13 @@ pub fn file_run(
 }
 
 /// `state`: [`STATE_SIZE`] words, the machine's, row, instruction, address, a, b,
-/// result, list position, whether an access has begun, its clocks left. `result`:
-/// instructions finished.
+/// result, list position, whether an access has begun, its clocks left. `resets`: the
+/// numbers of the reset clocks. `result`: instructions finished.
 pub fn gate_run(
     memory: &mut [u32],
     bottom: u32,
     waits: &[u16],
+    resets: &[u64],
     state: &mut [u32],
     clocks: u64,
     result: &mut [u64],
@@ -162,6 +168,8 @@ pub fn gate_run(
             bottom,
             waits.as_ptr(),
             waits.len(),
+            resets.as_ptr(),
+            resets.len(),
             state.as_mut_ptr(),
             state.len(),
             clocks,
@@ -171,7 +179,7 @@ pub fn gate_run(
     }
 }
 
-/// As [`gate_run`] of one clock.
+/// As [`gate_run`] of one clock without resets.
 pub fn clock(
     memory: &mut [u32],
     bottom: u32,

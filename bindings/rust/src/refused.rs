@@ -8,11 +8,11 @@ pub struct Refused(pub u32);
 
 /// The papers' reasons, each with its number.
 #[rustfmt::skip] // tests/bindings.sh reads a reason a line
-const REASONS: [(u32, &str); 16] = [
+const REASONS: [(u32, &str); 17] = [
     (1, "the memory has no words"),
     (2, "the memory has more than 16,777,216 words"),
     (3, "the wait list has more than 65,536 entries"),
-    (4, "the gate state has a bad row, list position or access"),
+    (4, "the row, the list position or the access is bad"),
     (5, "the file run wants more than 65,536 instructions"),
     (6, "the journal has fewer than two places for each instruction"),
     (7, "the output is shorter than the image"),
@@ -25,6 +25,7 @@ const REASONS: [(u32, &str); 16] = [
     (14, "the memory is shorter than the word count"),
     (15, "bytes follow the end field"),
     (21, "the bottom exceeds the memory's length"),
+    (22, "the reset list does not rise strictly"),
 ];
 
 impl fmt::Display for Refused {

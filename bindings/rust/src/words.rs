@@ -53,7 +53,7 @@ impl Machine {
 pub struct GateState {
     pub machine: Machine,
     /// The row to be done next, 0 to 12; row 0 is between instructions, and in row 12
-    /// the machine has halted.
+    /// the machine has halted until a reset.
     pub row: u8,
     pub instruction: u32,
     pub address: u32,

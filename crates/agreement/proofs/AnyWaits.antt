@@ -10,13 +10,18 @@ use Rattle.interpreter.proofs.Answers.{returned, left-in}
 use Rattle.agreement.specs.AnyWaits.{AnyWaits}
 
 pub any-waits : AnyWaits
-any-waits memory bottom waits waits′ start n r words c z r′ words′ d y =
+any-waits memory bottom waits waits′ position position′ start n r words c z r′ words′ d y =
     let board = boardWith bottom waits in
     let board′ = boardWith bottom waits′ in
-    let v = accepted (runVerdict memory board) (sym (c .number) ∙ z) in
-    let u = accepted (runVerdict memory board′) (sym (d .number) ∙ y) in
-    let same = waits-only-wait bottom waits waits′ start memory 0 0 n in
-    rw (returned memory board start n v c, left-in memory board start n v c, returned memory board′ start n u d, left-in memory board′ start n u d)
+    let v = accepted (runVerdict memory board position) (sym (c .number) ∙ z) in
+    let u = accepted (runVerdict memory board′ position′) (sym (d .number) ∙ y) in
+    let same = waits-only-wait bottom waits waits′ start memory position position′ n in
+    rw (
+      returned memory board position start n v c,
+      left-in memory board position start n v c,
+      returned memory board′ position′ start n u d,
+      left-in memory board′ position′ start n u d,
+    )
     (record {
       answer = ap (λ (w : Work). runAnswer (w .ending)) same;
       machine = ap (λ (w : Work). w .machine) same;

@@ -30,9 +30,9 @@ left-keeps bottom memory left (Refused why) e = refl
 
 pub run-call-keeps-bottom : RunCallKeepsBottom
 unfolding runWords
-run-call-keeps-bottom memory board start n r words c =
+run-call-keeps-bottom memory board position start n r words c =
     ap (take (board .bottom)) (c .words)
-    ∙ left-keeps (board .bottom) memory _ (runVerdict memory board) (run-keeps-bottom board n (begin start memory 0))
+    ∙ left-keeps (board .bottom) memory _ (runVerdict memory board position) (run-keeps-bottom board n (begin start memory position))
 
 pub file-call-keeps-bottom : FileCallKeepsBottom
 unfolding fileWords
@@ -44,19 +44,19 @@ file-call-keeps-bottom memory bottom journal start n r words places c =
 
 pub gate-call-keeps-bottom : GateCallKeepsBottom
 unfolding gateWords
-gate-call-keeps-bottom memory board start k r words c =
+gate-call-keeps-bottom memory board resets start k r words c =
     ap (take (board .bottom)) (c .words)
-    ∙ left-keeps (board .bottom) memory _ (gateVerdict memory board start) (gate-keeps-bottom board k (gateFrom start memory))
+    ∙ left-keeps (board .bottom) memory _ (gateVerdict memory board resets start) (gate-keeps-bottom board resets k (gateFrom start memory))
 
 -- ---- as with the bottom at 0
 
 pub run-call-as-level : RunCallAsLevel
-run-call-as-level memory board start n never r words c z r′ words′ c′ =
-    let v = accepted (runVerdict memory board) (sym (c .number) ∙ z) in
-    let v′ = accepted-as-level memory board .run v in
-    let e = run-as-level board n (begin start memory 0) never .run in (
-      returned memory board start n v c ∙ ap (runResult Accepted start) e ∙ sym (returned memory (level board) start n v′ c′),
-      left-in memory board start n v c ∙ ap (λ (x : Run). x .memory) e ∙ sym (left-in memory (level board) start n v′ c′),
+run-call-as-level memory board position start n never r words c z r′ words′ c′ =
+    let v = accepted (runVerdict memory board position) (sym (c .number) ∙ z) in
+    let v′ = accepted-as-level memory board .run position v in
+    let e = run-as-level board n (begin start memory position) never .run in (
+      returned memory board position start n v c ∙ ap (runResult Accepted position start) e ∙ sym (returned memory (level board) position start n v′ c′),
+      left-in memory board position start n v c ∙ ap (λ (x : Run). x .memory) e ∙ sym (left-in memory (level board) position start n v′ c′),
     )
 
 pub file-call-as-level : FileCallAsLevel
@@ -76,10 +76,10 @@ file-call-as-level memory bottom journal start n never r words places c z r′ w
     )
 
 pub gate-call-as-level : GateCallAsLevel
-gate-call-as-level memory board start k never r words c z r′ words′ c′ =
-    let v = not-refused memory board start k c z in
-    let v′ = accepted-as-level memory board .gate start v in
-    let e = gate-as-level board k (gateFrom start memory) never in (
-      result-of memory board start k c v ∙ ap (gateResult Accepted start) e ∙ sym (result-of memory (level board) start k c′ v′),
-      words-of memory board start k c v ∙ ap (λ (x : Gate). x .memory) e ∙ sym (words-of memory (level board) start k c′ v′),
+gate-call-as-level memory board resets start k never r words c z r′ words′ c′ =
+    let v = not-refused memory board resets start k c z in
+    let v′ = accepted-as-level memory board .gate resets start v in
+    let e = gate-as-level board resets k (gateFrom start memory) never in (
+      result-of memory board resets start k c v ∙ ap (gateResult Accepted start) e ∙ sym (result-of memory (level board) resets start k c′ v′),
+      words-of memory board resets start k c v ∙ ap (λ (x : Gate). x .memory) e ∙ sym (words-of memory (level board) resets start k c′ v′),
     )

@@ -16,12 +16,12 @@ use Rattle.interpreter.proofs.Answers.{returned, left-in, file-returned, file-l
 use Rattle.agreement.specs.FileAsRun.{AsRun, FileAsRun}
 
 -- the claim for a run i and a file run j that did the same work
-module _ (memory : List ℕ) (start : Machine) (i j : Run) (same : workOf j ≡ workOf i) (pairs : ℕ) where
-  claim : AsRun memory start (i .memory) (runResult Accepted start i) (memoryEnd (j .ending) memory j) (fileEnd (j .ending) start j pairs)
+module _ (memory : List ℕ) (position : ℕ) (start : Machine) (i j : Run) (same : workOf j ≡ workOf i) (pairs : ℕ) where
+  claim : AsRun memory start (i .memory) (runResult Accepted position start i) (memoryEnd (j .ending) memory j) (fileEnd (j .ending) start j pairs)
   claim = go (i .ending) refl (ap (λ (w : Work). w .ending) same)
     where
       go : (e : Ending) → i .ending ≡ e → j .ending ≡ i .ending
-          → AsRun memory start (i .memory) (runResult Accepted start i) (memoryEnd (j .ending) memory j) (fileEnd (j .ending) start j pairs)
+          → AsRun memory start (i .memory) (runResult Accepted position start i) (memoryEnd (j .ending) memory j) (fileEnd (j .ending) start j pairs)
       go Finished e d =
           rw (d, e)
           (record {
@@ -51,9 +51,15 @@ module _ (memory : List ℕ) (start : Machine) (i j : Run) (same : workOf j ≡ 
           })
 
 pub file-as-run : FileAsRun
-file-as-run memory board journal start n r words c z f words′ journal′ d y =
+file-as-run memory board position journal start n r words c z f words′ journal′ d y =
     let bottom = board .bottom in
-    let v = accepted (runVerdict memory board) (sym (c .number) ∙ z) in
+    let v = accepted (runVerdict memory board position) (sym (c .number) ∙ z) in
     let u = accepted (fileVerdict memory bottom journal n) (sym (d .number) ∙ y) in
-    rw (returned memory board start n v c, left-in memory board start n v c, file-returned memory bottom journal start n u d, file-left memory bottom journal start n u d)
-    (claim memory start (interpret board n (begin start memory 0)) (interpret (fileBoard bottom) n (begin start memory 0)) (waits-only-wait bottom [] (board .waits) start memory 0 0 n) _)
+    rw (
+      returned memory board position start n v c,
+      left-in memory board position start n v c,
+      file-returned memory bottom journal start n u d,
+      file-left memory bottom journal start n u d,
+    )
+    (claim memory position start (interpret board n (begin start memory position)) (interpret (fileBoard bottom) n (begin start memory 0))
+    (waits-only-wait bottom [] (board .waits) start memory 0 position n) _)

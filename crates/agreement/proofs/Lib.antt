@@ -2,6 +2,8 @@ mod Series
 mod TwoRuns
 mod Halted
 mod Bottom
+mod SinceReset
+mod GoesOn
 mod Starred
 mod AnyWaits
 mod FileAsRun

@@ -7,6 +7,7 @@ use lib.Dec.{T, eqb, eqb→eq}
 use store.Enc.{and-l, and-r}
 use Rattle.model.specs.declared.Verdict.the-variants.{Accepted}
 use Rattle.model.specs.Board.{Board, boardWith}
+use Rattle.model.specs.Waits.{positionFits}
 use Rattle.model.specs.Interpreter.{Run, interpret}
 use Rattle.model.specs.GateMachine.{Gate, gateRun}
 use Rattle.model.specs.Refusals.{verdictNumber, runVerdict}
@@ -27,21 +28,21 @@ boardOf c = boardWith 0 (c .waits)
 
 -- no case is turned down
 abbrev taken : Case → Bool
-taken c = eqb (verdictNumber (runVerdict (c .memory) (boardOf c))) 0
+taken c = eqb (verdictNumber (runVerdict (c .memory) (boardOf c) 0)) 0
 
 abbrev allTaken : List Case → Bool
 allTaken [] = true
 allTaken (c ∷ cs) = taken c && allTaken cs
 
-module _ (c : Case) (t : T (taken c)) (p : T (passes c)) {r : RunResult} {words : List ℕ} (h : Runs (c .memory) (boardOf c) (machineOf (startOf c)) 1 words r) where
-  verdict : runVerdict (c .memory) (boardOf c) ≡ Accepted
-  verdict = accepted (runVerdict (c .memory) (boardOf c)) (eqb→eq _ 0 t)
+module _ (c : Case) (t : T (taken c)) (p : T (passes c)) {r : RunResult} {words : List ℕ} (h : Runs (c .memory) (boardOf c) 0 (machineOf (startOf c)) 1 words r) where
+  verdict : runVerdict (c .memory) (boardOf c) 0 ≡ Accepted
+  verdict = accepted (runVerdict (c .memory) (boardOf c) 0) (eqb→eq _ 0 t)
 
   abbrev ran : Run
   ran = interpret (boardOf c) 1 (interpreterFrom (startOf c) (c .memory))
 
   abbrev clocked : ℕ → Gate
-  clocked k = gateRun (boardOf c) k (gateFrom (startOf c) (c .memory))
+  clocked k = gateRun (boardOf c) [] k (gateFrom (startOf c) (c .memory))
 
   -- the two halves of the model's test
   abbrev ranWell : Bool
@@ -52,11 +53,11 @@ module _ (c : Case) (t : T (taken c)) (p : T (passes c)) {r : RunResult} {words 
 
   holds : Holds c r words
   holds =
-      rw (returned (c .memory) (boardOf c) (machineOf (startOf c)) 1 verdict h, left-in (c .memory) (boardOf c) (machineOf (startOf c)) 1 verdict h)
+      rw (returned (c .memory) (boardOf c) 0 (machineOf (startOf c)) 1 verdict h, left-in (c .memory) (boardOf c) 0 (machineOf (startOf c)) 1 verdict h)
       (record {
         run = and-l ranWell clockedWell p;
         clocks = λ g words′ d.
-            let q = carried-out (c .memory) (boardOf c) (startOf c) (ran .clocks) d (same-verdict (c .memory) (boardOf c) (startOf c) (record { row = refl; position = refl; begun = refl; left = refl }) ∙ verdict) in
+            let q = carried-out (c .memory) (boardOf c) [] (startOf c) (ran .clocks) d (same-verdict (c .memory) (boardOf c) (startOf c) (record { row = refl; begun = refl; left = refl }) ∙ verdict) in
             rw (ap gateMark q) (and-r ranWell clockedWell p);
       })
 
@@ -68,5 +69,5 @@ all-hold (c ∷ cs) t p = (
 )
 
 pub starred-cases : StarredCases
-unfolding runVerdict
+unfolding positionFits runVerdict
 starred-cases = all-hold cases tt starred

@@ -1,5 +1,6 @@
 -- CR 6: the bottom of memory, in the terms of what a run, a file run and a gate run return by their contracts: it is never altered, and a
--- call that is carried out and stores nothing below it returns and leaves what it does with the bottom at 0.
+-- call that is carried out and stores nothing below it returns and leaves what it does with the bottom at 0; from any list position and with
+-- any resets (CR 7).
 use Prim.Native.Nat.{ℕ}
 use mathlib.Core.Path.{_≡_}
 use mathlib.Core.Bool.{true}
@@ -21,8 +22,8 @@ use Rattle.gate_machine.specs.Calls.{gateNumber, GateRuns}
 
 abbrev pub RunCallKeepsBottom : Type 0
 RunCallKeepsBottom =
-    (memory : List ℕ) (board : Board) (start : Machine) (n : ℕ)
-    → (r : RunResult) (words : List ℕ) → Runs memory board start n words r
+    (memory : List ℕ) (board : Board) (position : ℕ) (start : Machine) (n : ℕ)
+    → (r : RunResult) (words : List ℕ) → Runs memory board position start n words r
     → take (board .bottom) words ≡ take (board .bottom) memory
 
 abbrev pub FileCallKeepsBottom : Type 0
@@ -33,17 +34,18 @@ FileCallKeepsBottom =
 
 abbrev pub GateCallKeepsBottom : Type 0
 GateCallKeepsBottom =
-    (memory : List ℕ) (board : Board) (start : GateState) (k : ℕ)
-    → (r : GateResult) (words : List ℕ) → GateRuns memory board start k words r
+    (memory : List ℕ) (board : Board) (resets : List ℕ) (start : GateState) (k : ℕ)
+    → (r : GateResult) (words : List ℕ) → GateRuns memory board resets start k words r
     → take (board .bottom) words ≡ take (board .bottom) memory
 
 -- ---- as with the bottom at 0
 
 abbrev pub RunCallAsLevel : Type 0
 RunCallAsLevel =
-    (memory : List ℕ) (board : Board) (start : Machine) (n : ℕ) → neverStoresBelow (board .bottom) board n (begin start memory 0) ≡ true
-    → (r : RunResult) (words : List ℕ) → Runs memory board start n words r → runNumber (r .answer) ≡ 0
-    → (r′ : RunResult) (words′ : List ℕ) → Runs memory (level board) start n words′ r′
+    (memory : List ℕ) (board : Board) (position : ℕ) (start : Machine) (n : ℕ)
+    → neverStoresBelow (board .bottom) board n (begin start memory position) ≡ true
+    → (r : RunResult) (words : List ℕ) → Runs memory board position start n words r → runNumber (r .answer) ≡ 0
+    → (r′ : RunResult) (words′ : List ℕ) → Runs memory (level board) position start n words′ r′
     → (r ≡ r′) × (words ≡ words′)
 
 abbrev pub FileCallAsLevel : Type 0
@@ -56,7 +58,8 @@ FileCallAsLevel =
 
 abbrev pub GateCallAsLevel : Type 0
 GateCallAsLevel =
-    (memory : List ℕ) (board : Board) (start : GateState) (k : ℕ) → noClockStoresBelow (board .bottom) board k (gateFrom start memory) ≡ true
-    → (r : GateResult) (words : List ℕ) → GateRuns memory board start k words r → gateNumber (r .outcome .answer) ≡ 0
-    → (r′ : GateResult) (words′ : List ℕ) → GateRuns memory (level board) start k words′ r′
+    (memory : List ℕ) (board : Board) (resets : List ℕ) (start : GateState) (k : ℕ)
+    → noClockStoresBelow (board .bottom) board resets k (gateFrom start memory) ≡ true
+    → (r : GateResult) (words : List ℕ) → GateRuns memory board resets start k words r → gateNumber (r .outcome .answer) ≡ 0
+    → (r′ : GateResult) (words′ : List ℕ) → GateRuns memory (level board) resets start k words′ r′
     → (r ≡ r′) × (words ≡ words′)

@@ -1,5 +1,5 @@
--- The file run beside the run, in the terms of what the two calls return by their contracts. Document 01, "File run and journal"; CR 5 and
--- CR 6.
+-- The file run beside the run, in the terms of what the two calls return by their contracts. Document 01, "File run and journal"; CR 5 to
+-- CR 7.
 use Prim.Native.Nat.{ℕ}
 use mathlib.Core.Path.{_≡_}
 use mathlib.Core.List.{List}
@@ -27,10 +27,10 @@ pub record AsRun (memory : List ℕ) (start : Machine) (words : List ℕ) (r : R
   pub outside : r .answer ≡ RunAnswer.Outside → (f .machine ≡ start) × (words′ ≡ memory)
   pub halted : r .answer ≡ RunAnswer.NoInstruction → (f .machine ≡ start) × (words′ ≡ memory)
 
--- for every memory, bottom, start, n and journal, and under every wait list, where neither call is turned down
+-- for every memory, bottom, start, n and journal, and under every wait list from any position, where neither call is turned down
 abbrev pub FileAsRun : Type 0
 FileAsRun =
-    (memory : List ℕ) (board : Board) (journal : List ℕ) (start : Machine) (n : ℕ)
-    → (r : RunResult) (words : List ℕ) → Runs memory board start n words r → runNumber (r .answer) ≡ 0
+    (memory : List ℕ) (board : Board) (position : ℕ) (journal : List ℕ) (start : Machine) (n : ℕ)
+    → (r : RunResult) (words : List ℕ) → Runs memory board position start n words r → runNumber (r .answer) ≡ 0
     → (f : FileResult) (words′ journal′ : List ℕ) → FileRuns memory (board .bottom) journal start n words′ journal′ f → fileNumber (f .answer) ≡ 0
     → AsRun memory start words r words′ f

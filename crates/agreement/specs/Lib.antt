@@ -2,6 +2,8 @@ pub mod Series
 pub mod TwoRuns
 pub mod Halted
 pub mod Bottom
+pub mod SinceReset
+pub mod GoesOn
 pub mod Starred
 pub mod AnyWaits
 pub mod FileAsRun

@@ -15,14 +15,14 @@ use Rattle.agreement.specs.TwoRuns.{runMark}
 -- a run of one instruction, and a gate run of as many clocks as it returns, leave what the case expects
 pub record Holds (c : Case) (r : RunResult) (words : List ℕ) : Type 0 where
   pub run : T (hasAll (runMark r words) (r .clocks) (c .expected))
-  pub clocks : (g : GateResult) (words′ : List ℕ) → GateRuns (c .memory) (boardWith 0 (c .waits)) (startOf c) (r .clocks) words′ g
+  pub clocks : (g : GateResult) (words′ : List ℕ) → GateRuns (c .memory) (boardWith 0 (c .waits)) [] (startOf c) (r .clocks) words′ g
       → T (hasAll (gateMark (gate (g .state) words′ (g .outcome .finished))) (r .clocks) (c .expected))
 
 -- whatever the calls return for each case
 abbrev pub AllHold : List Case → Type 0
 AllHold [] = Unit
 AllHold (c ∷ cs) =
-    ((r : RunResult) (words : List ℕ) → Runs (c .memory) (boardWith 0 (c .waits)) (machineOf (startOf c)) 1 words r → Holds c r words) × AllHold cs
+    ((r : RunResult) (words : List ℕ) → Runs (c .memory) (boardWith 0 (c .waits)) 0 (machineOf (startOf c)) 1 words r → Holds c r words) × AllHold cs
 
 abbrev pub StarredCases : Type 0
 StarredCases = AllHold cases

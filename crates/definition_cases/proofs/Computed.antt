@@ -11,9 +11,9 @@ use Rattle.model.specs.Interpreter.{execute, stop, advance, interpret}
 use Rattle.model.specs.Journal.{storedBy, journalPairs, journalWords}
 use Rattle.model.specs.GateMachine.{work, isAccess, remaining, positionNow, workOrWait, clock, gateRun}
 use Rattle.model.specs.Packed.{packedOf, flagsOf, latchWords}
-use Rattle.model.specs.Refusals.{gateVerdict}
-use Rattle.definition_cases.specs.Shape.{runHolds, gateHolds, verdictHolds, failures}
-use Rattle.definition_cases.specs.Cases.{runCases, gateCases, verdictCases}
+use Rattle.model.specs.Refusals.{runVerdict, gateVerdict}
+use Rattle.definition_cases.specs.Shape.{runHolds, gateHolds, verdictHolds, startHolds, failures}
+use Rattle.definition_cases.specs.Cases.{runCases, gateCases, verdictCases, startCases}
 
 pub runs : failures runHolds 0 runCases ≡ []
 unfolding field bit isInstruction packedOf flagsOf operandA operandB signedOf leaves sumOf differenceOf halvedOf answers aluAt aluOf isMove operation alu flagsAfter stores waitAt nextPosition waitSum positionAfter execute stop advance interpret storedBy journalPairs journalWords
@@ -26,3 +26,7 @@ gates = refl
 pub verdicts : failures verdictHolds 0 verdictCases ≡ []
 unfolding flagsOf isAccess positionFits gateVerdict
 verdicts = refl
+
+pub starts : failures startHolds 0 startCases ≡ []
+unfolding positionFits runVerdict
+starts = refl

@@ -1,6 +1,6 @@
 -- Generated cases of both engines: inputs, what the reference emulator gave, and whether the model's definitions give the same. A test of
 -- the definitions of document 01, "Machine and instruction word", "Clocks", "File run and journal" and "Why a call is turned down", and of
--- document 02, CR 3, CR 5 and CR 6.
+-- document 02, CR 3, CR 5, CR 6 and CR 7.
 use Prim.Native.Nat.{ℕ, suc}
 use mathlib.Core.Bool.{Bool, true, false, cond, _&&_}
 use mathlib.Core.List.{List, [], _∷_}
@@ -14,7 +14,7 @@ use Rattle.model.specs.Interpreter.{begin, interpret}
 use Rattle.model.specs.Journal.{journalPairs, journalWords}
 use Rattle.model.specs.GateMachine.{gateRun}
 use Rattle.model.specs.Packed.{packedOf, flagsOf, packedMachine, latchWords}
-use Rattle.model.specs.Refusals.{verdictNumber, gateVerdict}
+use Rattle.model.specs.Refusals.{verdictNumber, runVerdict, gateVerdict}
 use Rattle.model.specs.Agreement.{gateFrom}
 
 abbrev pub same : List ℕ → List ℕ → Bool
@@ -31,11 +31,11 @@ endingNumber Outside = 1
 endingNumber NoInstruction = 2
 
 pub data RunCase : Type 0 where
-  runCase : (memory regs : List ℕ) (flags bottom : ℕ) (waits : List ℕ) (n : ℕ) (memory′ regs′ : List ℕ) (flags′ : ℕ) (journal : List ℕ) (ran clocks ending : ℕ) → RunCase
+  runCase : (memory regs : List ℕ) (flags bottom : ℕ) (waits : List ℕ) (position n : ℕ) (memory′ regs′ : List ℕ) (flags′ : ℕ) (journal : List ℕ) (ran clocks ending position′ : ℕ) → RunCase
 
 abbrev pub runHolds : RunCase → Bool
-runHolds (runCase memory regs flags bottom waits n memory′ regs′ flags′ journal ran clocks ending) =
-    let start = begin (packedMachine regs flags) memory 0 in
+runHolds (runCase memory regs flags bottom waits position n memory′ regs′ flags′ journal ran clocks ending position′) =
+    let start = begin (packedMachine regs flags) memory position in
     let board = boardWith bottom waits in
     let r = interpret board n start in
     same (r .memory) memory′
@@ -45,11 +45,12 @@ runHolds (runCase memory regs flags bottom waits n memory′ regs′ flags′ jo
     && eqb (r .ran) ran
     && eqb (r .clocks) clocks
     && eqb (endingNumber (r .ending)) ending
+    && eqb (r .position) position′
 
 -- ---- gate runs; a state is its registers, and in a list its flags, row, latches, position, access begun, clocks left
 
 pub data GateCase : Type 0 where
-  gateCase : (memory : List ℕ) (bottom : ℕ) (waits regs latches : List ℕ) (clocks : ℕ) (memory′ regs′ latches′ : List ℕ) (finished : ℕ) → GateCase
+  gateCase : (memory : List ℕ) (bottom : ℕ) (waits resets regs latches : List ℕ) (clocks : ℕ) (memory′ regs′ latches′ : List ℕ) (finished : ℕ) → GateCase
 
 abbrev pub caseState : List ℕ → List ℕ → GateState
 caseState regs latches =
@@ -71,21 +72,29 @@ abbrev pub latchesOf : GateState → List ℕ
 latchesOf s = packedOf (s .flags) ∷ latchWords s
 
 abbrev pub gateHolds : GateCase → Bool
-gateHolds (gateCase memory bottom waits regs latches clocks memory′ regs′ latches′ finished) =
-    let g = gateRun (boardWith bottom waits) clocks (gateFrom (caseState regs latches) memory) in
+gateHolds (gateCase memory bottom waits resets regs latches clocks memory′ regs′ latches′ finished) =
+    let g = gateRun (boardWith bottom waits) resets clocks (gateFrom (caseState regs latches) memory) in
     same (g .memory) memory′
     && same (g .state .regs) regs′
     && same (latchesOf (g .state)) latches′
     && eqb (g .finished) finished
 
--- ---- whether a gate run takes a memory with its bottom and a state: 0, or the refusal's number, 1, 21 or 4
+-- ---- whether a gate run takes a memory with its bottom, resets and a state: 0, or the refusal's number, 1, 21, 22 or 4
 
 pub data VerdictCase : Type 0 where
-  verdictCase : (memory : List ℕ) (bottom : ℕ) (waits latches : List ℕ) (number : ℕ) → VerdictCase
+  verdictCase : (memory : List ℕ) (bottom : ℕ) (waits resets latches : List ℕ) (number : ℕ) → VerdictCase
 
 abbrev pub verdictHolds : VerdictCase → Bool
-verdictHolds (verdictCase memory bottom waits latches number) =
-    eqb (verdictNumber (gateVerdict memory (boardWith bottom waits) (caseState [] latches))) number
+verdictHolds (verdictCase memory bottom waits resets latches number) =
+    eqb (verdictNumber (gateVerdict memory (boardWith bottom waits) resets (caseState [] latches))) number
+
+-- ---- whether a run of the interpreter takes a memory with its bottom and a list position: 0, or the refusal's number, 1, 21 or 4
+
+pub data StartCase : Type 0 where
+  startCase : (memory : List ℕ) (bottom : ℕ) (waits : List ℕ) (position number : ℕ) → StartCase
+
+abbrev pub startHolds : StartCase → Bool
+startHolds (startCase memory bottom waits position number) = eqb (verdictNumber (runVerdict memory (boardWith bottom waits) position)) number
 
 -- ---- the numbers, from i, of the cases that do not hold
 

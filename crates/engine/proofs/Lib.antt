@@ -1,2 +1,2 @@
-mod Spending
+pub mod Spending
 mod Turns

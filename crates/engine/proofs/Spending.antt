@@ -1,4 +1,4 @@
--- The waits of several accesses, one access more at a time, and of an empty list.
+-- Where a run begins in the wait list. The waits of several accesses, one access more at a time, and of an empty list.
 use Prim.Native.Nat.{ℕ, _+_, _≤_}
 use mathlib.Core.Path.{_≡_, refl, sym, ap, _∙_}
 use mathlib.Core.Bool.{Bool, true, false, cond, _&&_}
@@ -11,12 +11,24 @@ use Rattle.model.specs.declared.Operand.{Operand}
 use Rattle.model.specs.Operands.{inMemory}
 use Rattle.model.specs.Waits.{positionFits, waitSum, positionAfter}
 use Rattle.model.specs.Interpreter.{costOf}
-use Rattle.model.proofs.Waits.{sum-add, position-add, fits-past, no-waits, position-stays}
+use Rattle.model.proofs.Waits.{sum-add, position-add, first-fits, fits-past, no-waits, position-stays}
 use Rattle.engine.specs.declared.clocks.Spent.{Spent}
-use Rattle.engine.specs.Clocks.{moreOf, walkedOf, spentOf}
+use Rattle.engine.specs.Clocks.{beginsAt, moreOf, walkedOf, spentOf}
 
 spent-eq : {c d p q : ℕ} → c ≡ d → p ≡ q → _≡_ {A = Spent} (record { clocks = c; position = p }) (record { clocks = d; position = q })
 spent-eq e f = rw (e, f)
+
+module _ (waits : List ℕ) (from : ℕ) where
+  -- where a run begins fits, and is what was given where that fits
+  pub begin-fits : {position : ℕ} → position ≡ beginsAt waits from → positionFits waits position ≡ true
+  begin-fits {position} = go (positionFits waits from) refl
+    where
+      go : (t : Bool) → positionFits waits from ≡ t → position ≡ cond t from 0 → positionFits waits position ≡ true
+      go true p e = ap (positionFits waits) e ∙ p
+      go false p e = ap (positionFits waits) e ∙ first-fits waits
+
+  pub begins-there : positionFits waits from ≡ true → beginsAt waits from ≡ from
+  begins-there e = rw e
 
 module _ (waits : List ℕ) where
   -- ---- several

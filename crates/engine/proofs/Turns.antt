@@ -1,6 +1,6 @@
 -- The shared loop: where it stands after i instructions, one turn more, and its two ends.
 use Prim.Native.Nat.{ℕ, _+_, _^_, _≤_, _<_}
-use mathlib.Core.Path.{_≡_, refl, sym, ap, subst, _∙_}
+use mathlib.Core.Path.{_≡_, refl, sym, ap, subst₂, _∙_}
 use mathlib.Core.Bool.{Bool, true, false, cond}
 use mathlib.Core.List.{List, [], _∷_, _++_, append-nil}
 use native.Mathlib.Nat.{add-assoc}
@@ -17,7 +17,7 @@ use Rattle.model.specs.Journal.{Pair, storedBy, journalPairs, journalWords}
 use Rattle.model.specs.Packed.{packedOf, packedMachine}
 use Rattle.model.proofs.Packed.{unpacks}
 use Rattle.model.proofs.Runs.{runAt, stopped-stays, stopped-pairs, pairs-le, noted-length, noted-words}
-use Rattle.model.proofs.Waits.{first-fits, after-fits}
+use Rattle.model.proofs.Waits.{after-fits}
 use Rattle.model.proofs.Bounds.{clocks-le}
 use Rattle.step.specs.declared.Stepped.{Stepped}
 use Rattle.step.specs.Steps.{journaled, Steps}
@@ -46,9 +46,9 @@ module _ (board : Board) {regs memory journal : List ℕ} {pairs flags : ℕ} {r
 
 -- ---- the loop
 
-module _ (memory₀ : List ℕ) (board : Board) (journal₀ : List ℕ) (start : Machine) (count : ℕ) where
+module _ (memory₀ : List ℕ) (board : Board) (from : ℕ) (journal₀ : List ℕ) (start : Machine) (count : ℕ) where
   abbrev first : I.Run
-  first = I.begin start memory₀ 0
+  first = I.begin start memory₀ from
 
   abbrev pairsAt : ℕ → List Pair
   pairsAt i = journalPairs board i first
@@ -63,13 +63,13 @@ module _ (memory₀ : List ℕ) (board : Board) (journal₀ : List ℕ) (start :
     pub words : length memory ≡ length memory₀
     pub places : length journal ≡ length journal₀
 
-module _ {memory₀ : List ℕ} {board : Board} {journal₀ : List ℕ} {start : Machine} {count : ℕ} {memory journal regs : List ℕ} {flags position clocks pairs i : ℕ}
-    (a : At memory₀ board journal₀ start count memory journal regs flags position clocks pairs i) where
+module _ {memory₀ : List ℕ} {board : Board} {from : ℕ} {journal₀ : List ℕ} {start : Machine} {count : ℕ} {memory journal regs : List ℕ} {flags position clocks pairs i : ℕ}
+    (a : At memory₀ board from journal₀ start count memory journal regs flags position clocks pairs i) where
   abbrev run₀ : I.Run
-  run₀ = first memory₀ board journal₀ start count
+  run₀ = first memory₀ board from journal₀ start count
 
   abbrev pairsTo : ℕ → List Pair
-  pairsTo = pairsAt memory₀ board journal₀ start count
+  pairsTo = pairsAt memory₀ board from journal₀ start count
 
   abbrev here : I.Run
   here = runAt (packedMachine regs flags) memory position i clocks
@@ -90,7 +90,7 @@ module _ {memory₀ : List ℕ} {board : Board} {journal₀ : List ℕ} {start :
 
       pub turn : I.goesOn (s .ending) ≡ true → {w : Spent} → w ≡ spentOf (board .waits) (record { clocks = clocks; position = position }) (s .oa) (s .ob) (s .stored)
           → count < 2 ^ 32 → length memory′ ≡ length memory → length journal′ ≡ length journal
-          → At memory₀ board journal₀ start count memory′ journal′ regs′ (s .flags) (w .position) (w .clocks) (s .pairs) (i + 1)
+          → At memory₀ board from journal₀ start count memory′ journal′ regs′ (s .flags) (w .position) (w .clocks) (s .pairs) (i + 1)
       turn e f few lm lj =
           let before : Machine = packedMachine regs flags in
           let p : Pair = record { address = I.addressB memory before; former = I.valueB memory before } in
@@ -112,8 +112,8 @@ module _ {memory₀ : List ℕ} {board : Board} {journal₀ : List ℕ} {start :
             places = lj ∙ a .places;
           }
 
-      pub stopped : I.goesOn (s .ending) ≡ false → {ended : Ended} → ended ≡ endedAt (s .ending) (packedMachine regs′ flags) i clocks pairs
-          → EngineEnds memory₀ board journal₀ start count memory′ journal′ ended
+      pub stopped : I.goesOn (s .ending) ≡ false → {ended : Ended} → ended ≡ endedAt (s .ending) (packedMachine regs′ flags) position i clocks pairs
+          → EngineEnds memory₀ board from journal₀ start count memory′ journal′ ended
       unfolding I.stop
       stopped e g =
           let last : I.interpret board (i + 1) run₀ ≡ I.stop (s .ending) here = next ∙ stops h board position i clocks e in
@@ -128,8 +128,8 @@ module _ {memory₀ : List ℕ} {board : Board} {journal₀ : List ℕ} {start :
             places = same-places h e ∙ a .journaled ∙ ap (λ (l : List Pair). sets journal₀ 0 (journalWords l)) (sym same);
           }
 
-  pub finished : count ≤ i → {ended : Ended} → ended ≡ endedAt Finished (packedMachine regs flags) i clocks pairs
-      → EngineEnds memory₀ board journal₀ start count memory journal ended
+  pub finished : count ≤ i → {ended : Ended} → ended ≡ endedAt Finished (packedMachine regs flags) position i clocks pairs
+      → EngineEnds memory₀ board from journal₀ start count memory journal ended
   finished h g =
       let e : count ≡ i = omega (arith, a .below) in
       record {
@@ -140,23 +140,23 @@ module _ {memory₀ : List ℕ} {board : Board} {journal₀ : List ℕ} {start :
 
 -- ---- from the packed flags of a start
 
-pub begins : {memory : List ℕ} {board : Board} {journal regs : List ℕ} {flags count : ℕ}
-    → At memory board journal (packedMachine regs flags) count memory journal regs flags 0 0 0 0
+pub begins : {memory : List ℕ} {board : Board} {from : ℕ} {journal regs : List ℕ} {flags count : ℕ} → positionFits (board .waits) from ≡ true
+    → At memory board from journal (packedMachine regs flags) count memory journal regs flags from 0 0 0
 unfolding I.interpret journalPairs journalWords
-begins {board = board} =
+begins fits =
     record {
       state = refl;
       counted = refl;
       journaled = refl;
-      fits = first-fits (board .waits);
+      fits = fits;
       below = omega arith;
       words = refl;
       places = refl;
     }
 
-pub from-start : {memory : List ℕ} {board : Board} {journal : List ℕ} {start : Machine} {flags count : ℕ} {memory′ journal′ : List ℕ} {e : Ended}
-    → flags ≡ packedOf (start .flags) → EngineEnds memory board journal (packedMachine (start .regs) flags) count memory′ journal′ e
-    → EngineEnds memory board journal start count memory′ journal′ e
-from-start {memory} {board} {journal} {start} {flags} {count} {memory′} {journal′} {e} packs h =
+pub from-start : {memory : List ℕ} {board : Board} {from position : ℕ} {journal : List ℕ} {start : Machine} {flags count : ℕ} {memory′ journal′ : List ℕ} {e : Ended}
+    → flags ≡ packedOf (start .flags) → position ≡ from → EngineEnds memory board position journal (packedMachine (start .regs) flags) count memory′ journal′ e
+    → EngineEnds memory board from journal start count memory′ journal′ e
+from-start {memory} {board} {from} {position} {journal} {start} {flags} {count} {memory′} {journal′} {e} packs there h =
     let same : packedMachine (start .regs) flags ≡ start = rw (packs, unpacks (start .flags)) in
-    subst (λ (s : Machine). EngineEnds memory board journal s count memory′ journal′ e) same h
+    subst₂ (λ (p : ℕ) (s : Machine). EngineEnds memory board p journal s count memory′ journal′ e) there same h

@@ -2,18 +2,30 @@
 use model::Operand;
 use operands::in_memory;
 use wait_list::next_position;
+use wait_list::position_fits;
 ghost use mathlib.Core.Path.{_≡_};
 ghost use mathlib.Core.Bool.{true, cond};
 ghost use Prim.Native.Nat.{_+_, _^_, _≤_, _<_};
 ghost use lib.ListN.{length};
 ghost use Rattle.model.specs.Waits.{positionFits};
 ghost use Rattle.model.specs.Interpreter.{costOf};
-ghost use Rattle.engine.specs.Clocks.{moreOf, spentOf};
+ghost use Rattle.engine.specs.Clocks.{beginsAt, moreOf, spentOf};
 
 // Clocks so far, and the position in the wait list.
 pub struct Spent {
     pub clocks: u64,
     pub position: usize,
+}
+
+// Where a run begins in the wait list. A caller gives a position that fits; any other is taken for 0, so that the loop's position always fits.
+pub fn begins_at(waits: &[u16], from: u32) -> usize
+    ensures { λ r. ⌜ r ≡ beginsAt (now (waits .entry)) from ⌝ }
+{
+    let position = from as usize;
+    if position_fits(waits, position) {
+        return position;
+    }
+    0
 }
 
 // 8 clocks, and one each for A in memory, B in memory and a store.

@@ -3,6 +3,7 @@
 mod clocks;
 
 use clocks::Spent;
+use clocks::begins_at;
 use clocks::clocked;
 use model::Ending;
 use model::Machine;
@@ -13,46 +14,59 @@ use step::step;
 ghost use mathlib.Core.Path.{_≡_};
 ghost use Rattle.model.specs.Board.{boardWith};
 ghost use Rattle.model.specs.Packed.{packedMachine};
+ghost use Rattle.engine.specs.Clocks.{beginsAt};
 ghost use Rattle.engine.specs.Engine.{endedAt, EngineEnds};
 
-// A run at its end, with the number of its journal pairs.
+// A run at its end, with its position in the wait list and the number of its journal pairs.
 pub struct Ended {
     pub ending: Ending,
     pub machine: Machine,
+    pub position: usize,
     pub ran: u32,
     pub clocks: u64,
     pub pairs: u32,
 }
 
 // The loop's locals put together.
-fn run_end(ending: Ending, regs: [u32; 8], flags: u32, ran: u32, clocks: u64, pairs: u32) -> Ended
-    ensures { λ r. ⌜ r ≡ endedAt ending (packedMachine regs flags) ran clocks pairs ⌝ }
+fn run_end(
+    ending: Ending,
+    regs: [u32; 8],
+    flags: u32,
+    position: usize,
+    ran: u32,
+    clocks: u64,
+    pairs: u32,
+) -> Ended
+    ensures { λ r. ⌜ r ≡ endedAt ending (packedMachine regs flags) position ran clocks pairs ⌝ }
 {
     let flags = unpacked(flags);
     Ended {
         ending,
         machine: Machine { regs, flags },
+        position,
         ran,
         clocks,
         pairs,
     }
 }
 
-// Up to `count` instructions. A journal of 2 * `count` places gets every pair; callers that want none lend an empty one.
+// Up to `count` instructions, from a position in the wait list. A journal of 2 * `count` places gets every pair; callers that want none lend
+// an empty one.
 pub fn engine(
     memory: &mut [u32],
     bottom: u32,
     waits: &[u16],
+    from: u32,
     journal: &mut [u32],
     start: Machine,
     count: u32,
 ) -> Ended
-    ensures { λ r. ⌜ EngineEnds (now (memory .entry)) (boardWith bottom (now (waits .entry))) (now (journal .entry)) start count (now (memory .exit)) (now (journal .exit)) r ⌝ }
+    ensures { λ r. ⌜ EngineEnds (now (memory .entry)) (boardWith bottom (now (waits .entry))) (beginsAt (now (waits .entry)) from) (now (journal .entry)) start count (now (memory .exit)) (now (journal .exit)) r ⌝ }
 {
     let mut regs = start.regs;
     let first = start.flags;
     let mut flags = packed(first);
-    let mut position: usize = 0;
+    let mut position = begins_at(waits, from);
     let mut clocks: u64 = 0;
     let mut pairs: u32 = 0;
     let mut i: u32 = 0;
@@ -60,7 +74,7 @@ pub fn engine(
         let s = step(&mut regs, memory, bottom, journal, pairs, flags);
         let ending = s.ending;
         if !goes_on(ending) {
-            return run_end(ending, regs, flags, i, clocks, pairs);
+            return run_end(ending, regs, flags, position, i, clocks, pairs);
         }
         let oa = s.oa;
         let ob = s.ob;
@@ -71,5 +85,5 @@ pub fn engine(
         pairs = s.pairs;
         i += 1;
     }
-    run_end(Ending::Finished, regs, flags, i, clocks, pairs)
+    run_end(Ending::Finished, regs, flags, position, i, clocks, pairs)
 }

@@ -101,27 +101,26 @@ pub done-bounds : {i clocks : ℕ} → i < clocks → (stuck : Bool) {r : ℕ} �
 done-bounds h true e = (omega arith, omega arith)
 done-bounds h false e = (omega arith, omega arith)
 
-module _ (board : Board) (i clocks : ℕ) (g : Gate) {s : GateState} {m : List ℕ} {f : ℕ} (e : gate s m f ≡ gateRun board i g) where
-  ticked : {t : GateState} (b : Bool) {l : List ℕ} → Ticks board s m t b l → gate t l (f + asNumber b) ≡ gateRun board (i + 1) g
+module _ (board : Board) (i clocks : ℕ) (g : Gate) {s : GateState} {m : List ℕ} {f : ℕ} (e : gate s m f ≡ gateRun board [] i g) where
+  ticked : {t : GateState} (b : Bool) {l : List ℕ} → Ticks board s m t b l → gate t l (f + asNumber b) ≡ gateRun board [] (i + 1) g
   unfolding gateRun
-  ticked {t} b {l} h = ap (gate t l) (counted-is b f) ∙ h f ∙ ap (clock board) e ∙ sym (ap (λ (x : ℕ). gateRun board x g) (add-one i))
+  ticked {t} b {l} h = ap (gate t l) (counted-is b f) ∙ h f ∙ ap (clock board) e ∙ sym (ap (λ (x : ℕ). gateRun board [] x g) (add-one i))
 
   -- a machine that is stuck stands as it will after all the clocks
   pub turn : i < clocks → {t : GateState} (b : Bool) {l : List ℕ} (stuck : Bool) → Ticks board s m t b l → Stands board t l stuck
-      → {r : ℕ} → r ≡ cond stuck clocks (i + 1) → gate t l (f + asNumber b) ≡ gateRun board r g
-  turn less b true h stands d = rw d (stands-on board (i + 1) clocks g (ticked b h) (stands refl _) (omega arith))
+      → {r : ℕ} → r ≡ cond stuck clocks (i + 1) → gate t l (f + asNumber b) ≡ gateRun board [] r g
+  turn less b true h stands d = rw d (stands-on board [] (i + 1) clocks g (ticked b h) (stands refl _) (λ c _ _. refl) (omega arith))
   turn less b false h stands d = rw d (ticked b h)
 
 -- ---- a run from a state
 
 module _ (board : Board) (memory : List ℕ) (i : ℕ) (begun : GateState) {s : GateState} {m : List ℕ} {f : ℕ}
-    (e : gate s m f ≡ gateRun board i (gateFrom begun memory)) where
+    (e : gate s m f ≡ gateRun board [] i (gateFrom begun memory)) where
   -- no clock finishes more than one instruction
   pub finished-le : f ≤ i
-  finished-le = omega (arith, ap (λ (x : Gate). x .finished) e, finished-slow board i (gateFrom begun memory))
+  finished-le = omega (arith, ap (λ (x : Gate). x .finished) e, finished-slow board [] i (gateFrom begun memory))
 
-  pub run-ends : {clocks : ℕ} → i ≤ clocks → clocks ≤ i → {start end : GateState} → begun ≡ start → end ≡ s
-      → gate end m f ≡ gateRun board clocks (gateFrom start memory)
-  run-ends {clocks} below all p q =
+  pub run-ends : {clocks : ℕ} → i ≤ clocks → clocks ≤ i → gate s m f ≡ gateRun board [] clocks (gateFrom begun memory)
+  run-ends {clocks} below all =
       let n : clocks ≡ i = omega arith in
-      rw (q, n, ← p) e
+      rw n e

@@ -1,5 +1,5 @@
 -- The public call, a gate run: its result and the memory at exit, carried out or turned down. Document 01, "Clocks" and "Why a call is
--- turned down"; CR 6.
+-- turned down"; CR 6 and CR 7.
 use Prim.Native.Nat.{ℕ}
 use mathlib.Core.Path.{_≡_}
 use mathlib.Core.List.{List}
@@ -24,14 +24,14 @@ gateNumber GateAnswer.Ran = 0
 gateNumber (GateAnswer.Refused why) = refusalNumber why
 
 -- what a gate run of so many clocks returns, and the memory that it leaves
-unfoldable pub gateReturned : (memory : List ℕ) → Board → GateState → (clocks : ℕ) → GateResult
-gateReturned memory board start clocks = gateResult (gateVerdict memory board start) start (gateRun board clocks (gateFrom start memory))
+unfoldable pub gateReturned : (memory : List ℕ) → Board → (resets : List ℕ) → GateState → (clocks : ℕ) → GateResult
+gateReturned memory board resets start clocks = gateResult (gateVerdict memory board resets start) start (gateRun board resets clocks (gateFrom start memory))
 
-unfoldable pub gateWords : (memory : List ℕ) → Board → GateState → (clocks : ℕ) → List ℕ
-gateWords memory board start clocks = leftBy (gateVerdict memory board start) (gateRun board clocks (gateFrom start memory) .memory) memory
+unfoldable pub gateWords : (memory : List ℕ) → Board → (resets : List ℕ) → GateState → (clocks : ℕ) → List ℕ
+gateWords memory board resets start clocks = leftBy (gateVerdict memory board resets start) (gateRun board resets clocks (gateFrom start memory) .memory) memory
 
 -- what a gate run promises: its result, the memory's words, and the number for why it was turned down
-pub record GateRuns (memory : List ℕ) (board : Board) (start : GateState) (clocks : ℕ) (memory′ : List ℕ) (r : GateResult) : Type 0 where
-  pub result : r ≡ gateReturned memory board start clocks
-  pub words : memory′ ≡ gateWords memory board start clocks
-  pub number : gateNumber (r .outcome .answer) ≡ verdictNumber (gateVerdict memory board start)
+pub record GateRuns (memory : List ℕ) (board : Board) (resets : List ℕ) (start : GateState) (clocks : ℕ) (memory′ : List ℕ) (r : GateResult) : Type 0 where
+  pub result : r ≡ gateReturned memory board resets start clocks
+  pub words : memory′ ≡ gateWords memory board resets start clocks
+  pub number : gateNumber (r .outcome .answer) ≡ verdictNumber (gateVerdict memory board resets start)

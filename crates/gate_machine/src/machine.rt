@@ -1,10 +1,8 @@
 // One clock on borrowed registers, and the loop over the clocks, which alone calls it.
 use super::access::granted;
-use super::parts::latches_of;
-use super::parts::state_of;
+use super::parts::each_latch;
 use gate_rows::Latches;
 use gate_rows::work;
-use model::GateState;
 use model::Verdict;
 use step_table::ACCESS;
 use step_table::FINISHES;
@@ -13,6 +11,7 @@ use step_table::Step;
 use step_table::steps;
 ghost use mathlib.Core.Path.{_≡_};
 ghost use mathlib.Core.Bool.{cond};
+ghost use mathlib.Core.List.{[]};
 ghost use Prim.Native.Nat.{_+_, _≤_, _<_};
 ghost use lib.ListN.{length};
 ghost use Rattle.model.specs.Board.{boardWith};
@@ -23,15 +22,16 @@ ghost use Rattle.step_table.specs.Table.{stepOf};
 ghost use Rattle.gate_rows.specs.Work.{stateOf};
 ghost use Rattle.gate_machine.specs.Clock.{Ticks, Stands};
 
-// Stuck: no further clock changes anything.
+// Stuck: no further clock changes anything, unless reset is held on it.
 struct Ticked {
     latches: Latches,
     finished: bool,
     stuck: bool,
 }
 
-pub struct GateEnd {
-    pub state: GateState,
+// What clocks without resets leave beside registers and memory.
+pub struct Clocked {
+    pub latches: Latches,
     pub finished: u64,
 }
 
@@ -76,32 +76,32 @@ fn clocks_done(i: u64, clocks: u64, stuck: bool) -> u64
     if stuck { clocks } else { i + 1 }
 }
 
-// The step table and the registers stay in place: a clock copies neither.
+// Clocks without resets, on lent registers. The step table and the registers stay in place: a clock copies neither.
 pub fn run_clocks(
+    start: Latches,
+    regs: &mut [u32; 8],
     memory: &mut [u32],
     bottom: u32,
     waits: &[u16],
-    start: GateState,
     clocks: u64,
-) -> GateEnd
-    requires { ⌜ gateVerdict (now memory) (boardWith bottom (now waits)) start ≡ Verdict.Accepted ⌝ }
-    ensures { λ r. ⌜ gate (r .state) (now (memory .exit)) (r .finished) ≡ gateRun (boardWith bottom (now (waits .entry))) clocks (gateFrom start (now (memory .entry))) ⌝ }
+) -> Clocked
+    requires { ⌜ gateVerdict (now memory) (boardWith bottom (now waits)) [] (stateOf (now regs) start) ≡ Verdict.Accepted ⌝ }
+    ensures { λ r. ⌜ gate (stateOf (now (regs .exit)) (r .latches)) (now (memory .exit)) (r .finished) ≡ gateRun (boardWith bottom (now (waits .entry))) [] clocks (gateFrom (stateOf (now (regs .entry)) start) (now (memory .entry))) ⌝ }
 {
     let table = steps();
-    let mut regs = start.regs;
-    let mut s = latches_of(start);
+    let mut s = each_latch(start);
     let mut finished: u64 = 0;
     let mut i: u64 = 0;
     while i < clocks {
         let step = table[s.row as usize];
-        let t = tick(s, step, &mut regs, memory, bottom, waits);
+        let t = tick(s, step, regs, memory, bottom, waits);
         let next = t.latches;
         s = next;
         finished += t.finished as u64;
         i = clocks_done(i, clocks, t.stuck);
     }
-    GateEnd {
-        state: state_of(regs, s),
+    Clocked {
+        latches: s,
         finished,
     }
 }

@@ -23,6 +23,25 @@ pub fn latches_of(s: GateState) -> Latches
     }
 }
 
+// The same latches, field by field: copied as a whole, two of them would travel as one word, to be taken apart on each clock.
+pub fn each_latch(s: Latches) -> Latches
+    ensures { λ r. ⌜ r ≡ s ⌝ }
+{
+    let flags = s.flags;
+    Latches {
+        flags,
+        instruction: s.instruction,
+        address: s.address,
+        a: s.a,
+        b: s.b,
+        result: s.result,
+        position: s.position,
+        left: s.left,
+        row: s.row,
+        begun: s.begun,
+    }
+}
+
 // Registers and latches together again.
 pub fn state_of(regs: [u32; 8], s: Latches) -> GateState
     ensures { λ r. ⌜ r ≡ stateOf regs s ⌝ }

@@ -2,7 +2,7 @@
 use Prim.Native.Nat.{ℕ}
 use mathlib.Core.Path.{_≡_}
 use mathlib.Core.Bool.{Bool, true, false, not, cond}
-use mathlib.Core.List.{List}
+use mathlib.Core.List.{List, []}
 use lib.ListN.{length}
 use Rattle.model.specs.declared.GateState.{GateState}
 use Rattle.model.specs.Board.{Board, boardWith}
@@ -17,7 +17,7 @@ use Rattle.image.specs.declared.WriteAnswer.{WriteAnswer}
 use Rattle.image.specs.Calls.{Reads, Writes}
 use Rattle.host_reading.specs.declared.MachineLent.{MachineLent}
 use Rattle.host_reading.specs.declared.StateLent.{StateLent}
-use Rattle.host_reading.specs.Layout.{runPlaces, countPlaces, machineSize, stateSize, lentFormed, machineLent, stateLent}
+use Rattle.host_reading.specs.Layout.{runPlaces, fileRunPlaces, countPlaces, machineSize, stateSize, lentFormed, machineLent, stateLent}
 use Rattle.host_reading.proofs.Lengths.{lent-tests}
 use Rattle.host_reading.proofs.Starts.{lent-misfits, lent-fits, machine-tested, machine-start, state-tested, state-start}
 use Rattle.host_calls.specs.Codes.{misfit, codeIf, afterCall}
@@ -36,16 +36,16 @@ module _ (machine result : List ℕ) (due : ℕ) (lent : MachineLent) (e : lent 
       let f = lent-fits (machine-tested machine (length result) due lent e) n in
       ends-fitting _ _ f machineSize due _ _ _ machine result _ _ _ (lent-tests machineSize due (length machine) (length result) f) g
 
-module _ (memory : List ℕ) (bottom : ℕ) (waits machine : List ℕ) (count : ℕ) (result : List ℕ) (lent : MachineLent)
+module _ (memory : List ℕ) (bottom : ℕ) (waits : List ℕ) (position : ℕ) (machine : List ℕ) (count : ℕ) (result : List ℕ) (lent : MachineLent)
     (e : lent ≡ machineLent machine (length result) runPlaces) where
-  pub run-misfit : not (lent .formed) ≡ true → RunCall memory bottom waits machine count result memory machine result misfit
+  pub run-misfit : not (lent .formed) ≡ true → RunCall memory bottom waits position machine count result memory machine result misfit
   run-misfit n =
       let f = lent-misfits (machine-tested machine (length result) runPlaces lent e) n in
       record { returned = rw f; words = rw f; parts = rw f; numbers = rw f }
 
-  pub run-formed : not (lent .formed) ≡ false → (r : RunResult) (memory′ : List ℕ) → Runs memory (boardWith bottom waits) (lent .machine) count memory′ r
+  pub run-formed : not (lent .formed) ≡ false → (r : RunResult) (memory′ : List ℕ) → Runs memory (boardWith bottom waits) position (lent .machine) count memory′ r
       → (machine′ result′ : List ℕ) (number : ℕ) → RunEnds r machine result machine′ result′ number
-      → RunCall memory bottom waits machine count result memory′ machine′ result′ number
+      → RunCall memory bottom waits position machine count result memory′ machine′ result′ number
   run-formed n r memory′ runs machine′ result′ number g =
       let f = lent-fits (machine-tested machine (length result) runPlaces lent e) n in
       let start = machine-start machine (length result) runPlaces lent e n in
@@ -59,10 +59,10 @@ module _ (memory : List ℕ) (bottom : ℕ) (waits machine : List ℕ) (count : 
       }
 
 module _ (memory : List ℕ) (bottom : ℕ) (journal machine : List ℕ) (count : ℕ) (result : List ℕ) (lent : MachineLent)
-    (e : lent ≡ machineLent machine (length result) runPlaces) where
+    (e : lent ≡ machineLent machine (length result) fileRunPlaces) where
   pub file-misfit : not (lent .formed) ≡ true → FileCall memory bottom journal machine count result memory journal machine result misfit
   file-misfit n =
-      let f = lent-misfits (machine-tested machine (length result) runPlaces lent e) n in
+      let f = lent-misfits (machine-tested machine (length result) fileRunPlaces lent e) n in
       record { returned = rw f; words = rw f; places = rw f; parts = rw f; numbers = rw f }
 
   pub file-formed : not (lent .formed) ≡ false → (r : FileResult) (memory′ journal′ : List ℕ)
@@ -70,10 +70,10 @@ module _ (memory : List ℕ) (bottom : ℕ) (journal machine : List ℕ) (count 
       → FileEnds r machine result machine′ result′ number
       → FileCall memory bottom journal machine count result memory′ journal′ machine′ result′ number
   file-formed n r memory′ journal′ runs machine′ result′ number g =
-      let f = lent-fits (machine-tested machine (length result) runPlaces lent e) n in
-      let start = machine-start machine (length result) runPlaces lent e n in
+      let f = lent-fits (machine-tested machine (length result) fileRunPlaces lent e) n in
+      let start = machine-start machine (length result) fileRunPlaces lent e n in
       let same = rw start at (runs .result) in
-      let ends = ended machine result runPlaces lent e n g in
+      let ends = ended machine result fileRunPlaces lent e n g in
       record {
         returned = rw (← same) (ends .0);
         words = rw f (rw start at (runs .words));
@@ -82,15 +82,15 @@ module _ (memory : List ℕ) (bottom : ℕ) (journal machine : List ℕ) (count 
         numbers = rw (← same) (ends .2);
       }
 
-module _ (memory : List ℕ) (bottom : ℕ) (waits state : List ℕ) (clocks : ℕ) (result : List ℕ) (lent : StateLent) (e : lent ≡ stateLent state (length result)) where
-  pub gate-misfit : not (lent .formed) ≡ true → GateCall memory bottom waits state clocks result memory state result misfit
+module _ (memory : List ℕ) (bottom : ℕ) (waits resets state : List ℕ) (clocks : ℕ) (result : List ℕ) (lent : StateLent) (e : lent ≡ stateLent state (length result)) where
+  pub gate-misfit : not (lent .formed) ≡ true → GateCall memory bottom waits resets state clocks result memory state result misfit
   gate-misfit n =
       let f = lent-misfits (state-tested state (length result) lent e) n in
       record { returned = rw f; words = rw f; parts = rw f; numbers = rw f }
 
-  pub gate-formed : not (lent .formed) ≡ false → (r : GateResult) (memory′ : List ℕ) → GateRuns memory (boardWith bottom waits) (lent .state) clocks memory′ r
+  pub gate-formed : not (lent .formed) ≡ false → (r : GateResult) (memory′ : List ℕ) → GateRuns memory (boardWith bottom waits) resets (lent .state) clocks memory′ r
       → (state′ result′ : List ℕ) (number : ℕ) → GateEnds r state result state′ result′ number
-      → GateCall memory bottom waits state clocks result memory′ state′ result′ number
+      → GateCall memory bottom waits resets state clocks result memory′ state′ result′ number
   gate-formed n r memory′ runs state′ result′ number g =
       let f = lent-fits (state-tested state (length result) lent e) n in
       let start = state-start state (length result) lent e n in
@@ -104,9 +104,9 @@ module _ (memory : List ℕ) (bottom : ℕ) (waits state : List ℕ) (clocks : �
         numbers = rw (← same) (ends .2);
       }
 
--- one clock on a lent state is a gate run of one
+-- one clock on a lent state is a gate run of one, without resets
 pub lent-runs : {memory : List ℕ} {board : Board} {memory′ : List ℕ} {state : GateState} {r : GateResult} → LentClock memory board state memory′ (r .state) (r .outcome)
-    → GateRuns memory board state 1 memory′ r
+    → GateRuns memory board [] state 1 memory′ r
 lent-runs h =
     record {
       result = λ i. record { outcome = h .result i; state = h .advanced i };

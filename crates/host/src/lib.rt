@@ -7,29 +7,32 @@ use host_ends::end_read;
 use host_ends::end_run;
 use host_ends::end_write;
 use host_reading::COUNT_PLACES;
+use host_reading::FILE_RUN_PLACES;
 use host_reading::RUN_PLACES;
 use host_reading::machine_lent;
 use host_reading::state_lent;
 use lent_clock::clock_once;
+ghost use mathlib.Core.List.{[]};
 ghost use Rattle.host_calls.specs.Calls.{RunCall, FileCall, GateCall, ReadCall, WriteCall};
 
-// A run of the interpreter. `result`: instructions that ran, clock total.
+// A run of the interpreter from a position of its wait list. `result`: instructions that ran, clock total, list position after.
 #[no_mangle]
 pub extern "C" fn fm8502_run(
     memory: &mut [u32],
     bottom: u32,
     waits: &[u16],
+    position: u32,
     machine: &mut [u32],
     count: u32,
     result: &mut [u64],
 ) -> u32
-    ensures { λ r. ⌜ RunCall (now (memory .entry)) bottom (now (waits .entry)) (now (machine .entry)) count (now (result .entry)) (now (memory .exit)) (now (machine .exit)) (now (result .exit)) r ⌝ }
+    ensures { λ r. ⌜ RunCall (now (memory .entry)) bottom (now (waits .entry)) position (now (machine .entry)) count (now (result .entry)) (now (memory .exit)) (now (machine .exit)) (now (result .exit)) r ⌝ }
 {
     let lent = machine_lent(&*machine, result.len(), RUN_PLACES);
     if !lent.formed {
         return MISFIT;
     }
-    let r = interpreter::run(memory, bottom, waits, lent.machine, count);
+    let r = interpreter::run(memory, bottom, waits, position, lent.machine, count);
     end_run(r, machine, result)
 }
 
@@ -45,7 +48,7 @@ pub extern "C" fn fm8502_file_run(
 ) -> u32
     ensures { λ r. ⌜ FileCall (now (memory .entry)) bottom (now (journal .entry)) (now (machine .entry)) count (now (result .entry)) (now (memory .exit)) (now (journal .exit)) (now (machine .exit)) (now (result .exit)) r ⌝ }
 {
-    let lent = machine_lent(&*machine, result.len(), RUN_PLACES);
+    let lent = machine_lent(&*machine, result.len(), FILE_RUN_PLACES);
     if !lent.formed {
         return MISFIT;
     }
@@ -53,27 +56,28 @@ pub extern "C" fn fm8502_file_run(
     end_file_run(r, machine, result)
 }
 
-// A gate run. `result`: instructions finished.
+// A gate run. `resets`: the clocks, by number from 0, on which reset is held. `result`: instructions finished.
 #[no_mangle]
 pub extern "C" fn fm8502_gate_run(
     memory: &mut [u32],
     bottom: u32,
     waits: &[u16],
+    resets: &[u64],
     state: &mut [u32],
     clocks: u64,
     result: &mut [u64],
 ) -> u32
-    ensures { λ r. ⌜ GateCall (now (memory .entry)) bottom (now (waits .entry)) (now (state .entry)) clocks (now (result .entry)) (now (memory .exit)) (now (state .exit)) (now (result .exit)) r ⌝ }
+    ensures { λ r. ⌜ GateCall (now (memory .entry)) bottom (now (waits .entry)) (now (resets .entry)) (now (state .entry)) clocks (now (result .entry)) (now (memory .exit)) (now (state .exit)) (now (result .exit)) r ⌝ }
 {
     let lent = state_lent(&*state, result.len());
     if !lent.formed {
         return MISFIT;
     }
-    let r = gate_machine::run(memory, bottom, waits, lent.state, clocks);
+    let r = gate_machine::run(memory, bottom, waits, resets, lent.state, clocks);
     end_gate_run(r, state, result)
 }
 
-// One clock. `result`: instructions finished.
+// One clock, on which reset is not held. `result`: instructions finished.
 #[no_mangle]
 pub extern "C" fn fm8502_clock(
     memory: &mut [u32],
@@ -82,7 +86,7 @@ pub extern "C" fn fm8502_clock(
     state: &mut [u32],
     result: &mut [u64],
 ) -> u32
-    ensures { λ r. ⌜ GateCall (now (memory .entry)) bottom (now (waits .entry)) (now (state .entry)) 1 (now (result .entry)) (now (memory .exit)) (now (state .exit)) (now (result .exit)) r ⌝ }
+    ensures { λ r. ⌜ GateCall (now (memory .entry)) bottom (now (waits .entry)) [] (now (state .entry)) 1 (now (result .entry)) (now (memory .exit)) (now (state .exit)) (now (result .exit)) r ⌝ }
 {
     let lent = state_lent(&*state, result.len());
     if !lent.formed {

@@ -35,39 +35,57 @@ used n = replicate n 9
 
 -- two instructions: the first has two accesses, with waits of 2 and 3, and takes 15 clocks and not 10; the second has one, for which the
 -- list begins again with 2, and takes 11 and not 9
-run : RunCall (0x58 ∷ 0x2A ∷ 0 ∷ 0 ∷ []) 0 (2 ∷ 3 ∷ []) (machine 0 0 0) 2 (used 2)
-    (0x58 ∷ 0x2A ∷ 0 ∷ 0 ∷ []) (machine 3 0 0x2A) (2 ∷ 26 ∷ []) 0
-unfolding field bit isInstruction operandA operandB answers aluAt aluOf isMove operation alu flagsAfter stores waitAt nextPosition waitSum positionAfter execute advance interpret runVerdict runReturned runWords machineIn lentFormed machineWords
+run : RunCall (0x58 ∷ 0x2A ∷ 0 ∷ 0 ∷ []) 0 (2 ∷ 3 ∷ []) 0 (machine 0 0 0) 2 (used 3)
+    (0x58 ∷ 0x2A ∷ 0 ∷ 0 ∷ []) (machine 3 0 0x2A) (2 ∷ 26 ∷ 1 ∷ []) 0
+unfolding field bit isInstruction operandA operandB answers aluAt aluOf isMove operation alu flagsAfter stores waitAt nextPosition positionFits waitSum positionAfter execute advance interpret runVerdict runReturned runWords machineIn lentFormed machineWords
 run = record { returned = refl; words = refl; parts = refl; numbers = refl }
 
+-- CR 7: from position 1 of the list the access has a wait of 4, and the instruction takes 13 clocks and not 9; the list goes on at 2
+run-on : RunCall (0 ∷ []) 0 (2 ∷ 4 ∷ 6 ∷ []) 1 (machine 0 0 0) 1 (used 3)
+    (0 ∷ []) (machine 1 0 0) (1 ∷ 13 ∷ 2 ∷ []) 0
+unfolding field bit isInstruction operandA operandB answers aluAt aluOf isMove operation alu flagsAfter stores waitAt nextPosition positionFits waitSum positionAfter execute advance interpret runVerdict runReturned runWords machineIn lentFormed machineWords
+run-on = record { returned = refl; words = refl; parts = refl; numbers = refl }
+
+-- CR 7: a list of two has no position 2
+run-past : RunCall (used 1) 0 (2 ∷ 3 ∷ []) 2 (used 12) 1 (used 3)
+    (used 1) (used 12) (used 3) 4
+unfolding positionFits runVerdict runReturned runWords machineIn lentFormed machineWords
+run-past = record { returned = refl; words = refl; parts = refl; numbers = refl }
+
 -- refused for a memory of no words: what is lent stays, even flag words of 9, which stand for 1
-run-refused : RunCall [] 0 [] (used 12) 1 (used 2)
-    [] (used 12) (used 2) 1
+run-refused : RunCall [] 0 [] 0 (used 12) 1 (used 3)
+    [] (used 12) (used 3) 1
 unfolding runVerdict runReturned runWords machineIn lentFormed machineWords
 run-refused = record { returned = refl; words = refl; parts = refl; numbers = refl }
 
 -- CR 6: a bottom above the memory's length
-run-high : RunCall (used 1) 2 [] (used 12) 1 (used 2)
-    (used 1) (used 12) (used 2) 21
+run-high : RunCall (used 1) 2 [] 0 (used 12) 1 (used 3)
+    (used 1) (used 12) (used 3) 21
 unfolding runVerdict runReturned runWords machineIn lentFormed machineWords
 run-high = record { returned = refl; words = refl; parts = refl; numbers = refl }
 
 -- no machine has 11 words
-run-misfit : RunCall (used 1) 0 [] (used 11) 1 (used 2)
-    (used 1) (used 11) (used 2) 200
+run-misfit : RunCall (used 1) 0 [] 0 (used 11) 1 (used 3)
+    (used 1) (used 11) (used 3) 200
 unfolding lentFormed
 run-misfit = record { returned = refl; words = refl; parts = refl; numbers = refl }
 
+-- CR 7: a run's result has a place for the list position, which two places lack
+run-two-places : RunCall (used 1) 0 [] 0 (used 12) 1 (used 2)
+    (used 1) (used 12) (used 2) 200
+unfolding lentFormed
+run-two-places = record { returned = refl; words = refl; parts = refl; numbers = refl }
+
 -- CR 5: one instruction, then a word with bit 31, which is no instruction: the run stops before it
-run-halted : RunCall (0 ∷ 0x8000_0000 ∷ []) 0 [] (machine 0 0 0) 2 (used 2)
-    (0 ∷ 0x8000_0000 ∷ []) (machine 1 0 0) (1 ∷ 9 ∷ []) 101
-unfolding field bit isInstruction operandA operandB answers aluAt aluOf isMove operation alu flagsAfter stores waitAt nextPosition waitSum positionAfter execute stop advance interpret runVerdict runReturned runWords machineIn lentFormed machineWords
+run-halted : RunCall (0 ∷ 0x8000_0000 ∷ []) 0 [] 0 (machine 0 0 0) 2 (used 3)
+    (0 ∷ 0x8000_0000 ∷ []) (machine 1 0 0) (1 ∷ 9 ∷ 0 ∷ []) 101
+unfolding field bit isInstruction operandA operandB answers aluAt aluOf isMove operation alu flagsAfter stores waitAt nextPosition positionFits waitSum positionAfter execute stop advance interpret runVerdict runReturned runWords machineIn lentFormed machineWords
 run-halted = record { returned = refl; words = refl; parts = refl; numbers = refl }
 
 -- CR 6: r2 is moved to word 0, which is below the bottom: the store takes its clock and its wait, and alters nothing
-run-below : RunCall (0x122 ∷ []) 1 (3 ∷ []) (machine 0 0 5) 1 (used 2)
-    (0x122 ∷ []) (machine 1 0 5) (1 ∷ 19 ∷ []) 0
-unfolding field bit isInstruction operandA operandB answers aluAt aluOf isMove operation alu flagsAfter stores waitAt nextPosition waitSum positionAfter execute advance interpret runVerdict runReturned runWords machineIn lentFormed machineWords
+run-below : RunCall (0x122 ∷ []) 1 (3 ∷ []) 0 (machine 0 0 5) 1 (used 3)
+    (0x122 ∷ []) (machine 1 0 5) (1 ∷ 19 ∷ 0 ∷ []) 0
+unfolding field bit isInstruction operandA operandB answers aluAt aluOf isMove operation alu flagsAfter stores waitAt nextPosition positionFits waitSum positionAfter execute advance interpret runVerdict runReturned runWords machineIn lentFormed machineWords
 run-below = record { returned = refl; words = refl; parts = refl; numbers = refl }
 
 -- r2 is moved to word 0, over the move itself
@@ -95,22 +113,35 @@ unfolding field bit isInstruction operandA operandB answers aluAt aluOf isMove o
 file-run-below = record { returned = refl; words = refl; places = refl; parts = refl; numbers = refl }
 
 -- nine clocks finish one instruction: r1 is 0, CVNZ 1001, and the latches have its word and its operands
-gate-run : GateCall (0x0001_3C21 ∷ []) 0 [] (0 ∷ 0xFFFF_FFFF ∷ replicate 19 0) 9 (used 1)
+gate-run : GateCall (0x0001_3C21 ∷ []) 0 [] [] (0 ∷ 0xFFFF_FFFF ∷ replicate 19 0) 9 (used 1)
     (0x0001_3C21 ∷ []) (1 ∷ replicate 7 0 ++ 1 ∷ 0 ∷ 0 ∷ 1 ∷ 0 ∷ 0x0001_3C21 ∷ 0 ∷ 0xFFFF_FFFF ∷ 0xFFFF_FFFF ∷ 0 ∷ 0 ∷ 0 ∷ 0 ∷ []) (1 ∷ []) 0
 unfolding signedOf leaves sumOf field bit isInstruction operandA operandB answers aluAt aluOf isMove operation alu flagsAfter stores waitAt nextPosition positionFits work isAccess remaining positionNow workOrWait clock gateRun latchWords gateVerdict gateReturned gateWords machineIn stateIn lentFormed machineWords
 gate-run = record { returned = refl; words = refl; parts = refl; numbers = refl }
 
 -- CR 5: a word with bit 31 is read with its wait of two clocks, on the fourth clock, and latched; in row 12 the machine stays
-gate-run-halted : GateCall (0x8000_0000 ∷ []) 0 (2 ∷ []) (replicate 21 0) 6 (used 1)
+gate-run-halted : GateCall (0x8000_0000 ∷ []) 0 (2 ∷ []) [] (replicate 21 0) 6 (used 1)
     (0x8000_0000 ∷ []) (replicate 12 0 ++ 12 ∷ 0x8000_0000 ∷ replicate 7 0) (0 ∷ []) 0
 unfolding field bit isInstruction waitAt nextPosition positionFits work isAccess remaining positionNow workOrWait clock gateRun latchWords gateVerdict gateReturned gateWords machineIn stateIn lentFormed machineWords
 gate-run-halted = record { returned = refl; words = refl; parts = refl; numbers = refl }
 
 -- CR 6: row 9 with 5 for word 0, which is below the bottom: the clock is done, and the word stays 7
-gate-run-below : GateCall (7 ∷ []) 1 [] (replicate 12 0 ++ 9 ∷ 0 ∷ 0 ∷ 0 ∷ 0 ∷ 5 ∷ 0 ∷ 0 ∷ 0 ∷ []) 1 (used 1)
+gate-run-below : GateCall (7 ∷ []) 1 [] [] (replicate 12 0 ++ 9 ∷ 0 ∷ 0 ∷ 0 ∷ 0 ∷ 5 ∷ 0 ∷ 0 ∷ 0 ∷ []) 1 (used 1)
     (7 ∷ []) (replicate 12 0 ++ 10 ∷ 0 ∷ 0 ∷ 0 ∷ 0 ∷ 5 ∷ 0 ∷ 0 ∷ 0 ∷ []) (0 ∷ []) 0
 unfolding waitAt nextPosition positionFits work isAccess remaining positionNow workOrWait clock gateRun latchWords gateVerdict gateReturned gateWords machineIn stateIn lentFormed machineWords
 gate-run-below = record { returned = refl; words = refl; parts = refl; numbers = refl }
+
+-- CR 7: reset on the clock that would store 5 in word 1: the word stays 7, r0 and the row become 0, and the begun access is dropped, its entry
+-- used up; two clocks on, the access of row 1 has begun with the next entry, 3. The second number is past the run's clocks
+gate-run-reset : GateCall (0 ∷ 7 ∷ []) 0 (2 ∷ 3 ∷ 4 ∷ []) (0 ∷ 4 ∷ []) (6 ∷ replicate 11 0 ++ 9 ∷ 0 ∷ 1 ∷ 0 ∷ 0 ∷ 5 ∷ 1 ∷ 1 ∷ 1 ∷ []) 3 (used 1)
+    (0 ∷ 7 ∷ []) (replicate 12 0 ++ 1 ∷ 0 ∷ 0 ∷ 0 ∷ 0 ∷ 5 ∷ 2 ∷ 1 ∷ 3 ∷ []) (0 ∷ []) 0
+unfolding waitAt nextPosition positionFits work isAccess remaining positionNow workOrWait clock gateRun latchWords gateVerdict gateReturned gateWords machineIn stateIn lentFormed machineWords
+gate-run-reset = record { returned = refl; words = refl; parts = refl; numbers = refl }
+
+-- CR 7: a reset list that does not rise
+gate-run-level : GateCall (7 ∷ []) 0 [] (4 ∷ 4 ∷ []) (replicate 21 0) 1 (used 1)
+    (7 ∷ []) (replicate 21 0) (used 1) 22
+unfolding gateVerdict gateReturned gateWords machineIn stateIn lentFormed machineWords
+gate-run-level = record { returned = refl; words = refl; parts = refl; numbers = refl }
 
 -- ---- the image of one word
 

@@ -1,6 +1,6 @@
 -- What each exported call returns and leaves in what it is lent: the calls of the interpreter, the gate machine, the image reader and
 -- the image writer, on lent words. Document 01, "Machine and instruction word", "Clocks", "File run and journal", "Image" and "Why a call
--- is turned down"; CR 5 and CR 6.
+-- is turned down"; CR 5, CR 6 and CR 7.
 use Prim.Native.Nat.{ℕ}
 use mathlib.Core.Path.{_≡_}
 use mathlib.Core.Bool.{Bool, cond}
@@ -15,7 +15,7 @@ use Rattle.gate_machine.specs.Calls.{gateNumber, gateReturned, gateWords}
 use Rattle.image.specs.declared.ReadResult.{ReadResult}
 use Rattle.image.specs.declared.WriteAnswer.{WriteAnswer}
 use Rattle.image.specs.Calls.{writeNumber, writeReturned, writeBytes, readNumber, readReturned, readWords}
-use Rattle.host_reading.specs.Layout.{runPlaces, countPlaces, machineSize, machineIn, stateSize, stateIn, lentFormed}
+use Rattle.host_reading.specs.Layout.{runPlaces, fileRunPlaces, countPlaces, machineSize, machineIn, stateSize, stateIn, lentFormed}
 use Rattle.host_words.specs.Words.{machineWords, stateWords}
 use Rattle.host_calls.specs.Codes.{codeIf, afterCall, afterFile, runCode, fileCode}
 use Rattle.host_calls.specs.Codes.{runCounts, fileCounts, gateCounts, readCounts, writeCounts}
@@ -32,16 +32,16 @@ stateFormed state result = lentFormed stateSize countPlaces (length state) (leng
 
 -- ---- fm8502_run: a run of the interpreter
 
-module _ (memory : List ℕ) (bottom : ℕ) (waits machine : List ℕ) (count : ℕ) (result : List ℕ) where
+module _ (memory : List ℕ) (bottom : ℕ) (waits : List ℕ) (position : ℕ) (machine : List ℕ) (count : ℕ) (result : List ℕ) where
   abbrev pub runWithin : RunResult
-  runWithin = runReturned memory (boardWith bottom waits) (machineIn machine) count
+  runWithin = runReturned memory (boardWith bottom waits) position (machineIn machine) count
 
   abbrev pub runComesTo : ℕ
   runComesTo = codeIf (machineFormed runPlaces machine result) (runCode (runWithin .answer))
 
   pub record RunCall (memory′ machine′ result′ : List ℕ) (number : ℕ) : Type 0 where
     pub returned : number ≡ runComesTo
-    pub words : memory′ ≡ cond (machineFormed runPlaces machine result) (runWords memory (boardWith bottom waits) (machineIn machine) count) memory
+    pub words : memory′ ≡ cond (machineFormed runPlaces machine result) (runWords memory (boardWith bottom waits) position (machineIn machine) count) memory
     pub parts : machine′ ≡ afterCall runComesTo (machineWords (runWithin .machine)) machine
     pub numbers : result′ ≡ afterCall runComesTo (runCounts runWithin) result
 
@@ -52,27 +52,27 @@ module _ (memory : List ℕ) (bottom : ℕ) (journal machine : List ℕ) (count 
   fileWithin = fileReturned memory bottom journal (machineIn machine) count
 
   abbrev pub fileComesTo : ℕ
-  fileComesTo = codeIf (machineFormed runPlaces machine result) (fileCode (fileWithin .answer))
+  fileComesTo = codeIf (machineFormed fileRunPlaces machine result) (fileCode (fileWithin .answer))
 
   pub record FileCall (memory′ journal′ machine′ result′ : List ℕ) (number : ℕ) : Type 0 where
     pub returned : number ≡ fileComesTo
-    pub words : memory′ ≡ cond (machineFormed runPlaces machine result) (fileWords memory bottom journal (machineIn machine) count) memory
-    pub places : journal′ ≡ cond (machineFormed runPlaces machine result) (filePlaces memory bottom journal (machineIn machine) count) journal
+    pub words : memory′ ≡ cond (machineFormed fileRunPlaces machine result) (fileWords memory bottom journal (machineIn machine) count) memory
+    pub places : journal′ ≡ cond (machineFormed fileRunPlaces machine result) (filePlaces memory bottom journal (machineIn machine) count) journal
     pub parts : machine′ ≡ afterFile fileComesTo (machineWords (fileWithin .machine)) machine
     pub numbers : result′ ≡ afterCall fileComesTo (fileCounts fileWithin) result
 
--- ---- fm8502_gate_run: a gate run; fm8502_clock: one clock
+-- ---- fm8502_gate_run: a gate run; fm8502_clock: one clock, without resets
 
-module _ (memory : List ℕ) (bottom : ℕ) (waits state : List ℕ) (clocks : ℕ) (result : List ℕ) where
+module _ (memory : List ℕ) (bottom : ℕ) (waits resets state : List ℕ) (clocks : ℕ) (result : List ℕ) where
   abbrev pub gateWithin : GateResult
-  gateWithin = gateReturned memory (boardWith bottom waits) (stateIn state) clocks
+  gateWithin = gateReturned memory (boardWith bottom waits) resets (stateIn state) clocks
 
   abbrev pub gateComesTo : ℕ
   gateComesTo = codeIf (stateFormed state result) (gateNumber (gateWithin .outcome .answer))
 
   pub record GateCall (memory′ state′ result′ : List ℕ) (number : ℕ) : Type 0 where
     pub returned : number ≡ gateComesTo
-    pub words : memory′ ≡ cond (stateFormed state result) (gateWords memory (boardWith bottom waits) (stateIn state) clocks) memory
+    pub words : memory′ ≡ cond (stateFormed state result) (gateWords memory (boardWith bottom waits) resets (stateIn state) clocks) memory
     pub parts : state′ ≡ afterCall gateComesTo (stateWords (gateWithin .state)) state
     pub numbers : result′ ≡ afterCall gateComesTo (gateCounts gateWithin) result
 

@@ -64,9 +64,9 @@ afterFile code put former = cond (finishes code) put former
 
 -- ---- the numbers for the result's places
 
--- the instructions that ran, the clock total
+-- the instructions that ran, the clock total, the list position after (CR 7)
 abbrev pub runCounts : RunResult → List ℕ
-runCounts r = r .ran ∷ r .clocks ∷ []
+runCounts r = r .ran ∷ r .clocks ∷ r .position ∷ []
 
 -- the instructions that ran, the journal's pairs
 abbrev pub fileCounts : FileResult → List ℕ

@@ -16,7 +16,7 @@ use Rattle.gate_machine.specs.declared.GateResult.{GateResult}
 use Rattle.image.specs.declared.ReadAnswer.{ReadAnswer}
 use Rattle.image.specs.declared.ReadResult.{ReadResult}
 use Rattle.image.specs.declared.WriteAnswer.{WriteAnswer}
-use Rattle.host_reading.specs.Layout.{runPlaces, countPlaces, machineSize, stateSize}
+use Rattle.host_reading.specs.Layout.{runPlaces, fileRunPlaces, countPlaces, machineSize, stateSize}
 use Rattle.host_words.specs.Words.{machineWords, stateWords, laid}
 use Rattle.host_calls.specs.Codes.{done, stopped, halted, carriedOut, finishes, runCode, runCounts, fileCounts, gateCounts}
 use Rattle.host_ends.specs.Ends.{Ends, RunEnds, FileEnds, GateEnds, ReadEnds, WriteEnds}
@@ -55,12 +55,12 @@ module _ (r : RunResult) (code : ℕ) (n : code ≡ runCode (r .answer)) (lent r
       record { returned = n; parts = rw f; numbers = rw f }
 
 pub file-undone : (r : FileResult) (lent result result′ : List ℕ) → r .answer ≡ FileAnswer.Undone
-    → result′ ≡ laid runPlaces (fileCounts r) result → FileEnds r lent result lent result′ stopped
+    → result′ ≡ laid fileRunPlaces (fileCounts r) result → FileEnds r lent result lent result′ stopped
 file-undone r lent result result′ e p = record { returned = rw e; parts = rw e; numbers = rw e p }
 
 module _ (lent result lent′ result′ : List ℕ) where
   pub file-finished : (r : FileResult) → r .answer ≡ FileAnswer.Finished → lent′ ≡ laid machineSize (machineWords (r .machine)) lent
-      → result′ ≡ laid runPlaces (fileCounts r) result → FileEnds r lent result lent′ result′ done
+      → result′ ≡ laid fileRunPlaces (fileCounts r) result → FileEnds r lent result lent′ result′ done
   file-finished r e w p = record { returned = rw e; parts = rw e w; numbers = rw e p }
 
   pub gate-done : (r : GateResult) → r .outcome .answer ≡ GateAnswer.Ran → lent′ ≡ laid stateSize (stateWords (r .state)) lent

@@ -1,2 +1,3 @@
 mod Ends
+mod Placed
 pub mod Fitting

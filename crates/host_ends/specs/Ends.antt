@@ -11,7 +11,7 @@ use Rattle.gate_machine.specs.Calls.{gateNumber}
 use Rattle.image.specs.declared.ReadResult.{ReadResult}
 use Rattle.image.specs.declared.WriteAnswer.{WriteAnswer}
 use Rattle.image.specs.Calls.{writeNumber, readNumber}
-use Rattle.host_reading.specs.Layout.{runPlaces, countPlaces, machineSize, stateSize}
+use Rattle.host_reading.specs.Layout.{runPlaces, fileRunPlaces, countPlaces, machineSize, stateSize}
 use Rattle.host_words.specs.Words.{machineWords, stateWords, laid}
 use Rattle.host_calls.specs.Codes.{runCode, fileCode, carriedOut, finishes, afterCall, runCounts, fileCounts, gateCounts, readCounts, writeCounts}
 
@@ -27,7 +27,7 @@ abbrev pub RunEnds : RunResult → (machine result machine′ result′ : List �
 RunEnds r = Ends carriedOut (runCode (r .answer)) machineSize (machineWords (r .machine)) runPlaces (runCounts r)
 
 abbrev pub FileEnds : FileResult → (machine result machine′ result′ : List ℕ) → ℕ → Type 0
-FileEnds r = Ends finishes (fileCode (r .answer)) machineSize (machineWords (r .machine)) runPlaces (fileCounts r)
+FileEnds r = Ends finishes (fileCode (r .answer)) machineSize (machineWords (r .machine)) fileRunPlaces (fileCounts r)
 
 abbrev pub GateEnds : GateResult → (state result state′ result′ : List ℕ) → ℕ → Type 0
 GateEnds r = Ends carriedOut (gateNumber (r .outcome .answer)) stateSize (stateWords (r .state)) countPlaces (gateCounts r)

@@ -19,6 +19,7 @@ use interpreter::FileAnswer;
 use interpreter::FileResult;
 use interpreter::RunResult;
 use places::put_one;
+use places::put_three;
 use places::put_two;
 use refusals::refusal_number;
 ghost use Rattle.host_ends.specs.Ends.{RunEnds, FileEnds, GateEnds, ReadEnds, WriteEnds};
@@ -30,7 +31,7 @@ pub fn end_run(r: RunResult, machine: &mut [u32], result: &mut [u64]) -> u32
     let code = run_code(answer);
     if (code == DONE) | (code == STOPPED) | (code == HALTED) {
         put_machine(r.machine, machine);
-        put_two(r.ran as u64, r.clocks, result);
+        put_three(r.ran as u64, r.clocks, r.position as u64, result);
     }
     code
 }

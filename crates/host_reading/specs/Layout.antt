@@ -19,9 +19,13 @@ truth word = not (eqb word 0)
 
 -- ---- the result's places due
 
--- of a run and a file run
+-- of a run; CR 7: the third is the list position after it
 abbrev pub runPlaces : ℕ
-runPlaces = 2
+runPlaces = 3
+
+-- of a file run
+abbrev pub fileRunPlaces : ℕ
+fileRunPlaces = 2
 
 -- a result of one count: of a gate run and one clock, of a read and a write of an image
 abbrev pub countPlaces : ℕ

@@ -14,8 +14,11 @@ pub const MACHINE_SIZE: usize = 12;
 
 pub const STATE_SIZE: usize = 21;
 
-// The result's places of a run and a file run.
-pub const RUN_PLACES: usize = 2;
+// The result's places of a run.
+pub const RUN_PLACES: usize = 3;
+
+// The result's places of a file run.
+pub const FILE_RUN_PLACES: usize = 2;
 
 // The result's place of every other call.
 pub const COUNT_PLACES: usize = 1;

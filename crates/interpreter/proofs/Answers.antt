@@ -1,8 +1,8 @@
 -- The public calls: refused, carried out, undone.
 use Prim.Native.Nat.{ℕ, _≤_}
-use mathlib.Core.Path.{_≡_, refl, sym, ap, _∙_}
+use mathlib.Core.Path.{_≡_, refl, sym, ap, subst, _∙_}
 use mathlib.Core.Bool.{Bool, true, false}
-use mathlib.Core.List.{List}
+use mathlib.Core.List.{List, []}
 use native.Mathlib.Omega.{arith}
 use lib.ListN.{length}
 use Rattle.model.specs.declared.Machine.{Machine}
@@ -15,12 +15,16 @@ use Rattle.model.specs.Words.{overlay}
 use Rattle.model.specs.Board.{Board}
 use Rattle.model.specs.Interpreter.{goesOn, Run, begin, interpret}
 use Rattle.model.specs.Journal.{journalPairs, journalWords}
-use Rattle.model.specs.Refusals.{verdictNumber, leftBy, runVerdict, fileVerdict}
+use Rattle.model.specs.Refusals.{verdictNumber, leftBy, mostWaits, runVerdict, fileVerdict}
 use Rattle.model.proofs.Stores.{overlaid}
 use Rattle.model.proofs.Runs.{pairs-le, words-length}
 use Rattle.model.proofs.Verdicts.{room-for-all}
+use Rattle.model.proofs.Waits.{first-fits, fits-low}
+use Rattle.model.proofs.Valid.{run-passed, run-accepts-next}
 use Rattle.engine.specs.declared.Ended.{Ended}
+use Rattle.engine.specs.Clocks.{beginsAt}
 use Rattle.engine.specs.Engine.{EngineEnds}
+use Rattle.engine.proofs.Spending.{begins-there}
 use Rattle.journal.specs.Undo.{undone}
 use Rattle.journal.proofs.Journals.{back}
 use Rattle.interpreter.specs.declared.RunAnswer.{RunAnswer}
@@ -47,26 +51,26 @@ halted-as Finished q = cc
 halted-as Outside q = cc
 halted-as NoInstruction q = refl
 
-module _ (memory : List ℕ) (board : Board) (start : Machine) (count : ℕ) where
+module _ (memory : List ℕ) (board : Board) (position : ℕ) (start : Machine) (count : ℕ) where
   abbrev ran : Run
-  ran = interpret board count (begin start memory 0)
+  ran = interpret board count (begin start memory position)
 
   answer-number : (e : Ending) → runNumber (runAnswer e) ≡ 0
   answer-number Finished = refl
   answer-number Outside = refl
   answer-number NoInstruction = refl
 
-  numbered : (v : Verdict) (r : Run) → runNumber (runResult v start r .answer) ≡ verdictNumber v
+  numbered : (v : Verdict) (r : Run) → runNumber (runResult v position start r .answer) ≡ verdictNumber v
   numbered Accepted r = answer-number (r .ending)
   numbered (Refused why) r = refl
 
-  as-result : (v : Verdict) → v ≡ runVerdict memory board → {r : RunResult} {memory′ : List ℕ}
-      → r ≡ runResult v start ran → memory′ ≡ leftBy v (ran .memory) memory
-      → Runs memory board start count memory′ r
+  as-result : (v : Verdict) → v ≡ runVerdict memory board position → {r : RunResult} {memory′ : List ℕ}
+      → r ≡ runResult v position start ran → memory′ ≡ leftBy v (ran .memory) memory
+      → Runs memory board position start count memory′ r
   unfolding runReturned runWords
   as-result v e p q =
-      let n = runVerdict memory board in
-      let full = p ∙ ap (λ (v : Verdict). runResult v start ran) e in
+      let n = runVerdict memory board position in
+      let full = p ∙ ap (λ (v : Verdict). runResult v position start ran) e in
       record {
         result = full;
         words = q ∙ ap (λ (v : Verdict). leftBy v (ran .memory) memory) e;
@@ -74,29 +78,46 @@ module _ (memory : List ℕ) (board : Board) (start : Machine) (count : ℕ) whe
       }
 
   -- what the contract says is what some run returns and leaves
-  pub run-contracted : Runs memory board start count (runWords memory board start count) (runReturned memory board start count)
+  pub run-contracted : Runs memory board position start count (runWords memory board position start count) (runReturned memory board position start count)
   unfolding runReturned runWords
-  run-contracted = as-result (runVerdict memory board) refl refl refl
+  run-contracted = as-result (runVerdict memory board position) refl refl refl
 
   -- what a run that is carried out returns, and leaves in the memory
-  module _ {r : RunResult} {memory′ : List ℕ} (v : runVerdict memory board ≡ Accepted) (c : Runs memory board start count memory′ r) where
-    pub returned : r ≡ runResult Accepted start ran
+  module _ {r : RunResult} {memory′ : List ℕ} (v : runVerdict memory board position ≡ Accepted) (c : Runs memory board position start count memory′ r) where
+    pub returned : r ≡ runResult Accepted position start ran
     unfolding runReturned
-    returned = c .result ∙ ap (λ (w : Verdict). runResult w start ran) v
+    returned = c .result ∙ ap (λ (w : Verdict). runResult w position start ran) v
 
     pub left-in : memory′ ≡ ran .memory
     unfolding runWords
     left-in = c .words ∙ ap (λ (w : Verdict). leftBy w (ran .memory) memory) v
 
-module _ {memory : List ℕ} {board : Board} {start : Machine} {count : ℕ} {v : Verdict} (e : v ≡ runVerdict memory board) where
-  pub run-refused : {why : Refusal} → v ≡ Refused why
-      → Runs memory board start count memory (record { answer = RunAnswer.Refused why; machine = start; ran = 0; clocks = 0 })
-  run-refused {why} p = as-result memory board start count (Refused why) (sym p ∙ e) refl refl
+-- the list position that an accepted run begins at fits, and the one that it comes to is small
+position-low : (memory : List ℕ) (board : Board) (position : ℕ) (start : Machine) (count : ℕ) → runVerdict memory board position ≡ Accepted
+    → interpret board count (begin start memory position) .position ≤ mostWaits
+position-low memory board position start count v =
+    let r = interpret board count (begin start memory position) in
+    let next = run-passed (r .memory) board (r .position) (run-accepts-next memory board position start count v) in
+    fits-low (board .waits) (r .position) mostWaits (next .short) (next .there)
 
-  pub run-carried : v ≡ Accepted → {journal memory′ journal′ : List ℕ} {d : Ended}
-      → EngineEnds memory board journal start count memory′ journal′ d → {a : RunAnswer} → a ≡ runAnswer (d .ending)
-      → Runs memory board start count memory′ (record { answer = a; machine = d .machine; ran = d .ran; clocks = d .clocks })
-  run-carried p h f = as-result memory board start count Accepted (sym p ∙ e) (rw (f, h .result)) (h .words)
+from-there : (memory : List ℕ) (board : Board) (position : ℕ) → runVerdict memory board position ≡ Accepted → beginsAt (board .waits) position ≡ position
+from-there memory board position v = begins-there (board .waits) position (run-passed memory board position v .there)
+
+module _ {memory : List ℕ} {board : Board} (position : ℕ) {start : Machine} {count : ℕ} {v : Verdict} (e : v ≡ runVerdict memory board position) where
+  pub run-refused : {why : Refusal} → v ≡ Refused why
+      → Runs memory board position start count memory (record { answer = RunAnswer.Refused why; machine = start; ran = 0; clocks = 0; position = position })
+  run-refused {why} p = as-result memory board position start count (Refused why) (sym p ∙ e) refl refl
+
+  module _ (p : v ≡ Accepted) {journal memory′ journal′ : List ℕ} {d : Ended} (h : EngineEnds memory board (beginsAt (board .waits) position) journal start count memory′ journal′ d) where
+    ends : EngineEnds memory board position journal start count memory′ journal′ d
+    ends = subst (λ (x : ℕ). EngineEnds memory board x journal start count memory′ journal′ d) (from-there memory board position (sym e ∙ p)) h
+
+    pub position-fits : d .position ≤ mostWaits
+    position-fits = rw (ap (λ (d : Ended). d .position) (ends .result)) (position-low memory board position start count (sym e ∙ p))
+
+    pub run-carried : {a : RunAnswer} → a ≡ runAnswer (d .ending)
+        → Runs memory board position start count memory′ (record { answer = a; machine = d .machine; ran = d .ran; clocks = d .clocks; position = d .position })
+    run-carried f = as-result memory board position start count Accepted (sym p ∙ e) (rw (f, ends .result)) (ends .words)
 
 -- ---- the file run
 
@@ -149,7 +170,10 @@ module _ {memory : List ℕ} {bottom : ℕ} {journal : List ℕ} {start : Machin
       → FileRuns memory bottom journal start count memory journal (record { answer = FileAnswer.Refused why; machine = start; ran = 0; pairs = 0 })
   file-refused {why} p = as-file memory bottom journal start count (Refused why) (sym p ∙ e) refl refl refl
 
-  module _ (p : v ≡ Accepted) {memory′ journal′ : List ℕ} {d : Ended} (h : EngineEnds memory (fileBoard bottom) journal start count memory′ journal′ d) where
+  module _ (p : v ≡ Accepted) {memory′ journal′ : List ℕ} {d : Ended} (h′ : EngineEnds memory (fileBoard bottom) (beginsAt [] 0) journal start count memory′ journal′ d) where
+    h : EngineEnds memory (fileBoard bottom) 0 journal start count memory′ journal′ d
+    h = subst (λ (x : ℕ). EngineEnds memory (fileBoard bottom) x journal start count memory′ journal′ d) (begins-there [] 0 (first-fits [])) h′
+
     ended : {v x : Bool} → v ≡ goesOn (d .ending) → v ≡ x → goesOn (filed memory bottom journal start count .ending) ≡ x
     ended told f = sym (told ∙ ap (λ (d : Ended). goesOn (d .ending)) (h .result)) ∙ f
 

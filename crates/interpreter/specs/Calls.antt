@@ -1,5 +1,5 @@
 -- The two public calls, run and file run: their results, the memory and the journal at exit, carried out or turned down. Document 01,
--- "Machine and instruction word", "Clocks", "File run and journal" and "Why a call is turned down"; CR 5 and CR 6.
+-- "Machine and instruction word", "Clocks", "File run and journal" and "Why a call is turned down"; CR 5 to CR 7.
 use Prim.Native.Nat.{ℕ}
 use mathlib.Core.Path.{_≡_}
 use mathlib.Core.Bool.{cond}
@@ -28,12 +28,12 @@ runAnswer Finished = RunAnswer.Finished
 runAnswer Outside = RunAnswer.Outside
 runAnswer NoInstruction = RunAnswer.NoInstruction
 
--- a run that is turned down returns its start, and has run nothing
-abbrev pub runResult : Verdict → Machine → Run → RunResult
-runResult Accepted start r =
-    record { answer = runAnswer (r .ending); machine = r .machine; ran = r .ran; clocks = r .clocks }
-runResult (Refused why) start r =
-    record { answer = RunAnswer.Refused why; machine = start; ran = 0; clocks = 0 }
+-- a run that is turned down returns its start and its list position, and has run nothing
+abbrev pub runResult : Verdict → (position : ℕ) → Machine → Run → RunResult
+runResult Accepted position start r =
+    record { answer = runAnswer (r .ending); machine = r .machine; ran = r .ran; clocks = r .clocks; position = r .position }
+runResult (Refused why) position start r =
+    record { answer = RunAnswer.Refused why; machine = start; ran = 0; clocks = 0; position = position }
 
 -- the papers' number of an answer; 0 where the call was carried out
 abbrev pub runNumber : RunAnswer → ℕ
@@ -43,17 +43,19 @@ runNumber RunAnswer.NoInstruction = 0
 runNumber (RunAnswer.Refused why) = refusalNumber why
 
 -- what a run of so many instructions returns, and the memory that it leaves
-unfoldable pub runReturned : (memory : List ℕ) → Board → Machine → (count : ℕ) → RunResult
-runReturned memory board start count = runResult (runVerdict memory board) start (interpret board count (begin start memory 0))
+unfoldable pub runReturned : (memory : List ℕ) → Board → (position : ℕ) → Machine → (count : ℕ) → RunResult
+runReturned memory board position start count =
+    runResult (runVerdict memory board position) position start (interpret board count (begin start memory position))
 
-unfoldable pub runWords : (memory : List ℕ) → Board → Machine → (count : ℕ) → List ℕ
-runWords memory board start count = leftBy (runVerdict memory board) (interpret board count (begin start memory 0) .memory) memory
+unfoldable pub runWords : (memory : List ℕ) → Board → (position : ℕ) → Machine → (count : ℕ) → List ℕ
+runWords memory board position start count =
+    leftBy (runVerdict memory board position) (interpret board count (begin start memory position) .memory) memory
 
 -- what a run promises: its result, the memory's words, and the number for why it was turned down
-pub record Runs (memory : List ℕ) (board : Board) (start : Machine) (count : ℕ) (memory′ : List ℕ) (r : RunResult) : Type 0 where
-  pub result : r ≡ runReturned memory board start count
-  pub words : memory′ ≡ runWords memory board start count
-  pub number : runNumber (r .answer) ≡ verdictNumber (runVerdict memory board)
+pub record Runs (memory : List ℕ) (board : Board) (position : ℕ) (start : Machine) (count : ℕ) (memory′ : List ℕ) (r : RunResult) : Type 0 where
+  pub result : r ≡ runReturned memory board position start count
+  pub words : memory′ ≡ runWords memory board position start count
+  pub number : runNumber (r .answer) ≡ verdictNumber (runVerdict memory board position)
 
 -- ---- the file run
 

@@ -19,11 +19,13 @@ pub enum RunAnswer {
     Refused(Refusal),
 }
 
+// position: where the wait list goes on.
 pub struct RunResult {
     pub answer: RunAnswer,
     pub machine: Machine,
     pub ran: u32,
     pub clocks: u64,
+    pub position: u32,
 }
 
 pub enum FileAnswer {
@@ -50,28 +52,38 @@ fn run_answer(ending: Ending) -> RunAnswer
     }
 }
 
-// Up to `count` instructions from `start`, with waits, on a memory with a fixed bottom.
-pub fn run(memory: &mut [u32], bottom: u32, waits: &[u16], start: Machine, count: u32) -> RunResult
-    ensures { λ r. ⌜ Runs (now (memory .entry)) (boardWith bottom (now (waits .entry))) start count (now (memory .exit)) r ⌝ }
+// Up to `count` instructions from `start`, with waits from a position of their list, on a memory with a fixed bottom.
+pub fn run(
+    memory: &mut [u32],
+    bottom: u32,
+    waits: &[u16],
+    position: u32,
+    start: Machine,
+    count: u32,
+) -> RunResult
+    ensures { λ r. ⌜ Runs (now (memory .entry)) (boardWith bottom (now (waits .entry))) position start count (now (memory .exit)) r ⌝ }
 {
-    match run_verdict(&*memory, bottom, waits) {
+    match run_verdict(&*memory, bottom, waits, position) {
         Verdict::Refused(why) => RunResult {
             answer: RunAnswer::Refused(why),
             machine: start,
             ran: 0,
             clocks: 0,
+            position,
         },
         Verdict::Accepted => {
             let mut none: [u32; 0] = [];
-            let e = engine(memory, bottom, waits, &mut none, start, count);
+            let e = engine(memory, bottom, waits, position, &mut none, start, count);
             let machine = e.machine;
             let ending = e.ending;
             let ran = e.ran;
+            let after = e.position as u32;
             RunResult {
                 answer: run_answer(ending),
                 machine,
                 ran,
                 clocks: e.clocks,
+                position: after,
             }
         }
     }
@@ -97,7 +109,7 @@ pub fn file_run(
         },
         Verdict::Accepted => {
             let none: [u16; 0] = [];
-            let e = engine(memory, bottom, &none, journal, start, count);
+            let e = engine(memory, bottom, &none, 0, journal, start, count);
             let ending = e.ending;
             if goes_on(ending) {
                 let last = e.machine;

@@ -63,16 +63,16 @@ module _ {start : Machine} {memory₀ out₀ : List ℕ} {at₀ : ℕ} where
     clocks-so-far : clocks ≤ 176
     clocks-so-far = omega (arith, ap (λ (x : Run). x .clocks) (a .state), clocks-small ran run₀, a .below)
 
-    module _ {memory′ : List ℕ} {r : RunResult} (h : Runs memory ledgerBoard machine 1 memory′ r)
+    module _ {memory′ : List ℕ} {r : RunResult} (h : Runs memory ledgerBoard 0 machine 1 memory′ r)
         (fits : (0 < length memory₀) × (length memory₀ ≤ mostWords)) where
-      accepted : runVerdict memory ledgerBoard ≡ Accepted
+      accepted : runVerdict memory ledgerBoard 0 ≡ Accepted
       accepted = run-accepted memory (omega (arith, a .words)) (omega (arith, a .words))
 
-      now-is : r ≡ runResult Accepted machine (oneRun machine memory)
-      now-is = returned memory ledgerBoard machine 1 accepted h
+      now-is : r ≡ runResult Accepted 0 machine (oneRun machine memory)
+      now-is = returned memory ledgerBoard 0 machine 1 accepted h
 
       words-are : memory′ ≡ oneRun machine memory .memory
-      words-are = left-in memory ledgerBoard machine 1 accepted h
+      words-are = left-in memory ledgerBoard 0 machine 1 accepted h
 
       pub total-fits : clocks + r .clocks ≤ 200
       total-fits =

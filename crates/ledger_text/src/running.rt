@@ -27,10 +27,10 @@ fn word_under(memory: &[u32], address: u32) -> u32
 }
 
 fn run_one(memory: &mut [u32], machine: Machine) -> RunResult
-    ensures { λ r. ⌜ Runs (now (memory .entry)) ledgerBoard machine 1 (now (memory .exit)) r ⌝ }
+    ensures { λ r. ⌜ Runs (now (memory .entry)) ledgerBoard 0 machine 1 (now (memory .exit)) r ⌝ }
 {
     let no_waits: [u16; 0] = [];
-    run(memory, 0, &no_waits, machine, 1)
+    run(memory, 0, &no_waits, 0, machine, 1)
 }
 
 // How a run ended. One on an image's words is never refused.

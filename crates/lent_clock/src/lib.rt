@@ -3,15 +3,17 @@ use gate_machine::GateOutcome;
 use gate_machine::GateResult;
 use gate_machine::run;
 use model::GateState;
+ghost use mathlib.Core.List.{[]};
 ghost use Rattle.model.specs.Board.{boardWith};
 ghost use Rattle.gate_machine.specs.Calls.{GateRuns};
 ghost use Rattle.lent_clock.specs.Calls.{LentClock};
 
 // A run of one clock.
 fn clock(memory: &mut [u32], bottom: u32, waits: &[u16], state: GateState) -> GateResult
-    ensures { λ r. ⌜ GateRuns (now (memory .entry)) (boardWith bottom (now (waits .entry))) state 1 (now (memory .exit)) r ⌝ }
+    ensures { λ r. ⌜ GateRuns (now (memory .entry)) (boardWith bottom (now (waits .entry))) [] state 1 (now (memory .exit)) r ⌝ }
 {
-    run(memory, bottom, waits, state, 1)
+    let no_resets: [u64; 0] = [];
+    run(memory, bottom, waits, &no_resets, state, 1)
 }
 
 // One clock on a borrowed state: copied out, clocked by value, stored.

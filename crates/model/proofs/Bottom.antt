@@ -14,10 +14,11 @@ use Rattle.model.specs.declared.Verdict.the-variants.{Accepted}
 use Rattle.model.specs.Words.{present, storeWord, alterable, storeAbove}
 use Rattle.model.specs.Operands.{inMemory}
 use Rattle.model.specs.Board.{Board}
+use Rattle.model.specs.Resets.{isReset}
 use Rattle.model.specs.Interpreter as I
 use Rattle.model.specs.Journal.{Pair, storedBy, journalPairs}
-use Rattle.model.specs.GateMachine.{Gate, gate, withRow, rows, work, isAccess, remaining, positionNow, workOrWait, clock, gateRun}
-use Rattle.model.specs.Refusals.{_then_, memoryFits, bottomFits, waitsFit, stateFits, journalFits, runVerdict, fileVerdict, gateVerdict}
+use Rattle.model.specs.GateMachine.{Gate, gate, withRow, rows, work, isAccess, remaining, positionNow, workOrWait, clock, resetOrClock, gateRun}
+use Rattle.model.specs.Refusals.{_then_, memoryFits, bottomFits, waitsFit, resetsFit, startFits, stateFits, journalFits, runVerdict, fileVerdict, gateVerdict}
 use Rattle.model.specs.Bottom.{MemoryFirst, BottomNext, RunKeepsBottom, GateKeepsBottom, LevelStores, never, storesBelow, neverStoresBelow, clockStoresBelow, noClockStoresBelow, level, RunAsLevel, GateAsLevel, NeverAsLevel, NoClockAsLevel, AcceptedAsLevel}
 use Rattle.model.proofs.Cases.{pick, Each, past, _▸_}
 use Rattle.model.proofs.Runs.{one-more}
@@ -28,13 +29,13 @@ use Rattle.model.proofs.Verdicts.{both}
 
 pub memory-first : MemoryFirst
 unfolding runVerdict fileVerdict gateVerdict
-memory-first memory board why e = record { run = rw e; file = λ journal n. rw e; gate = λ s. rw e }
+memory-first memory board why e = record { run = λ position. rw e; file = λ journal n. rw e; gate = λ resets s. rw e }
 
 pub bottom-next : BottomNext
 unfolding runVerdict fileVerdict gateVerdict
 bottom-next memory board e h =
     let high = lt-leb (board .bottom) (length memory) h in
-    record { run = rw (e, high); file = λ journal n. rw (e, high); gate = λ s. rw (e, high) }
+    record { run = λ position. rw (e, high); file = λ journal n. rw (e, high); gate = λ resets s. rw (e, high) }
 
 -- ---- the bottom is kept
 
@@ -85,8 +86,11 @@ run-keeps-bottom board (suc n) r = advance-keeps board (I.interpret board n r) �
 
 pub gate-keeps-bottom : GateKeepsBottom
 unfolding gateRun
-gate-keeps-bottom board zero g = refl
-gate-keeps-bottom board (suc k) g = clock-keeps board (gateRun board k g) ∙ gate-keeps-bottom board k g
+gate-keeps-bottom board resets zero g = refl
+gate-keeps-bottom board resets (suc k) g =
+    let before = gateRun board resets k g in
+    pick (λ (h : Gate). Kept board (before .memory) (h .memory)) (isReset resets k) refl (clock-keeps board before)
+    ∙ gate-keeps-bottom board resets k g
 
 -- ---- as with the bottom at 0
 
@@ -197,7 +201,7 @@ nine-access : isAccess 9 ≡ true
 unfolding isAccess
 nine-access = refl
 
-clock-level : (board : Board) (g : Gate) → clockStoresBelow (board .bottom) board g ≡ false → clock board g ≡ clock (level board) g
+clock-level : (board : Board) (g : Gate) → clockStoresBelow (board .bottom) board false g ≡ false → clock board g ≡ clock (level board) g
 unfolding clock workOrWait
 clock-level board g h = go (isAccess (g .state .row)) refl (present (g .memory) (g .state .address)) (remaining waits (g .state)) h
   where
@@ -227,16 +231,22 @@ clock-level board g h = go (isAccess (g .state .row)) refl (present (g .memory) 
     go true a false w e = refl
     go false a t w e = work-level board g (elsewhere (eqb (g .state .row) 9) refl a)
 
+either-level : (board : Board) (held : Bool) (g : Gate) → clockStoresBelow (board .bottom) board held g ≡ false → resetOrClock board held g ≡ resetOrClock (level board) held g
+either-level board true g h = refl
+either-level board false g h = clock-level board g h
+
 pub gate-as-level : GateAsLevel
 unfolding gateRun never
-gate-as-level board zero g h = refl
-gate-as-level board (suc k) g h =
-    let last = gateRun board k g in
-    let (never, now) = never-now (noClockStoresBelow (board .bottom) board k g) (clockStoresBelow (board .bottom) board last) h in
-    clock-level board last now ∙ ap (clock (level board)) (gate-as-level board k g never)
+gate-as-level board resets zero g h = refl
+gate-as-level board resets (suc k) g h =
+    let last = gateRun board resets k g in
+    let held = isReset resets k in
+    let (never, now) = never-now (noClockStoresBelow (board .bottom) board resets k g) (clockStoresBelow (board .bottom) board held last) h in
+    either-level board held last now ∙ ap (resetOrClock (level board) held) (gate-as-level board resets k g never)
 
 pub no-clock-as-level : NoClockAsLevel
-no-clock-as-level board k g = never-same _ _ (λ i e. ap (clockStoresBelow (board .bottom) board) (gate-as-level board i g e)) k
+no-clock-as-level board resets k g =
+    never-same _ _ (λ i e. ap (clockStoresBelow (board .bottom) board (isReset resets i)) (gate-as-level board resets i g e)) k
 
 -- a bottom of 0 is never too high
 level-fits : (memory : List ℕ) (bottom : ℕ) (rest : Verdict) → (memoryFits memory then bottomFits memory bottom then rest) ≡ Accepted
@@ -249,7 +259,7 @@ pub accepted-as-level : AcceptedAsLevel
 unfolding runVerdict fileVerdict gateVerdict
 accepted-as-level memory board =
     record {
-      run = level-fits memory (board .bottom) (waitsFit (board .waits));
+      run = λ position. level-fits memory (board .bottom) (waitsFit (board .waits) then startFits (board .waits) position);
       file = λ journal n. level-fits memory (board .bottom) (journalFits journal n);
-      gate = λ s. level-fits memory (board .bottom) (waitsFit (board .waits) then stateFits (board .waits) s);
+      gate = λ resets s. level-fits memory (board .bottom) (waitsFit (board .waits) then resetsFit resets then stateFits (board .waits) s);
     }

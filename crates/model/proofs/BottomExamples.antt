@@ -12,7 +12,7 @@ use Rattle.model.specs.declared.Verdict.the-variants.{Accepted, Refused}
 use Rattle.model.specs.Words.{field, bit, isInstruction}
 use Rattle.model.specs.Operands.{operandA, operandB}
 use Rattle.model.specs.Alu.{isMove, operation, alu, flagsAfter, stores}
-use Rattle.model.specs.Waits.{waitAt, nextPosition, waitSum, positionAfter}
+use Rattle.model.specs.Waits.{waitAt, nextPosition, positionFits, waitSum, positionAfter}
 use Rattle.model.specs.Board.{Board, boardWith}
 use Rattle.model.specs.Interpreter.{machineWith, Run, begin, execute, advance, interpret}
 use Rattle.model.specs.Journal.{storedBy, journalPairs, journalWords}
@@ -58,7 +58,7 @@ run-stores = refl
 
 -- the gate machine on the clock before the store completes, on that clock, and at the total
 abbrev clocked : (bottom k : ℕ) → Gate
-clocked bottom k = gateRun (waiting bottom) k (gateFrom (atRest regs noFlags) (0x122 ∷ 7 ∷ []))
+clocked bottom k = gateRun (waiting bottom) [] k (gateFrom (atRest regs noFlags) (0x122 ∷ 7 ∷ []))
 
 -- the state after that many clocks: the row, its position in the list, whether an access has begun and its clocks left
 abbrev at : (row r0 position : ℕ) → (begun : Bool) → (left : ℕ) → GateState
@@ -82,7 +82,7 @@ reads-below : interpret (boardWith 2 []) 1 (begin (machineWith regs noFlags) (0x
 unfolding field bit isInstruction operandA operandB isMove operation alu flagsAfter stores aluOf aluAt answers execute advance interpret
 reads-below = refl
 
-gate-reads-below : gateRun (boardWith 2 []) 10 (gateFrom (atRest regs noFlags) (0x49 ∷ 7 ∷ [])) .state .regs ≡ read
+gate-reads-below : gateRun (boardWith 2 []) [] 10 (gateFrom (atRest regs noFlags) (0x49 ∷ 7 ∷ [])) .state .regs ≡ read
 unfolding field bit isInstruction operandA operandB isMove operation alu flagsAfter stores aluOf aluAt answers waitAt nextPosition work isAccess remaining positionNow workOrWait clock gateRun
 gate-reads-below = refl
 
@@ -91,16 +91,16 @@ never-below : map (λ (bottom : ℕ). neverStoresBelow bottom (waiting bottom) 1
 unfolding never field bit isInstruction operandA operandB isMove operation stores interpret
 never-below = refl
 
-no-clock : map (λ (k : ℕ). noClockStoresBelow 2 (waiting 2) k (gateFrom (atRest regs noFlags) (0x122 ∷ 7 ∷ []))) (14 ∷ 15 ∷ []) ≡ true ∷ false ∷ []
+no-clock : map (λ (k : ℕ). noClockStoresBelow 2 (waiting 2) [] k (gateFrom (atRest regs noFlags) (0x122 ∷ 7 ∷ []))) (14 ∷ 15 ∷ []) ≡ true ∷ false ∷ []
 unfolding never field bit isInstruction operandA operandB isMove operation alu flagsAfter stores aluOf aluAt answers waitAt nextPosition work isAccess remaining positionNow workOrWait clock gateRun
 no-clock = refl
 
 -- the whole memory may be the bottom, one more may not; a memory of no words comes first
 judged : (memory : List ℕ) → (bottom : ℕ) → Verdict
-judged memory bottom = runVerdict memory (boardWith bottom [])
+judged memory bottom = runVerdict memory (boardWith bottom []) 0
 
 fits : map (judged (0 ∷ 0 ∷ [])) (0 ∷ 2 ∷ 3 ∷ []) ≡ Accepted ∷ Accepted ∷ Refused BottomTooHigh ∷ []
-unfolding judged runVerdict
+unfolding judged positionFits runVerdict
 fits = refl
 
 words-first : judged [] 1 ≡ Refused NoWords

@@ -1,8 +1,9 @@
--- One of two, by a truth; every number, case by case; and the numbers from one on.
-use Prim.Native.Nat.{ℕ, zero, suc, _+_, _-_, _≤_}
+-- One of two, by a truth; every number, case by case; the numbers from one on, and those up to one.
+use Prim.Native.Nat.{ℕ, zero, suc, _+_, _-_, _≤_, _<_}
 use mathlib.Core.Path.{_≡_, ap, subst, _∙_}
 use mathlib.Core.Bool.{Bool, true, false, cond}
 use native.Mathlib.Nat.{zero-add, suc-add}
+use native.Mathlib.Decide.{decLt}
 use native.Mathlib.Omega.{arith}
 
 module _ {A : Type 0} where
@@ -44,3 +45,11 @@ onward P {i} {n} h p next = subst P (omega arith) (go (n - i))
     go : (d : ℕ) → P (d + i)
     go zero = rw zero-add p
     go (suc d) = rw suc-add (next (d + i) (omega arith) (go d))
+
+-- what holds of the numbers below k, and of k
+pub up-to : (P : ℕ → Type 0) {k : ℕ} → ((i : ℕ) → i < k → P i) → P k → (i : ℕ) → i < suc k → P i
+up-to P {k} h p i l = go (decLt i k)
+  where
+    go : Dec (i < k) → P i
+    go (yes q) = h i q
+    go (no n) = subst P (omega arith) p

@@ -2,6 +2,7 @@
 use Prim.Native.Nat.{ℕ, _+_, _≤_, _<_}
 use mathlib.Core.Path.{_≡_, refl, sym, ap, _∙_}
 use mathlib.Core.Bool.{true, false}
+use mathlib.Core.List.{[]}
 use native.Mathlib.Decide.{decLt}
 use native.Mathlib.Omega.{arith}
 use Rattle.model.specs.Board.{Board}
@@ -36,39 +37,39 @@ module _ (board : Board) (g : Gate) (r : Run) (w : Follows board g r) (e : nextE
   abbrev due : ℕ
   due = haltedAfter (board .waits) r
 
-  comes-to-end : gateRun board due g ≡ end
+  comes-to-end : gateRun board [] due g ≡ end
   unfolding waitSum
   comes-to-end =
       let read = 2 + waitSum (board .waits) (s .position) 1 in
       let total : due ≡ r .clocks + read = omega (arith, ap (waitAt (board .waits)) (w .position)) in
-      ap (λ (i : ℕ). gateRun board i g) total
+      ap (λ (i : ℕ). gateRun board [] i g) total
       ∙ run-add board (r .clocks) read g
-      ∙ ap (gateRun board read) (comes-idle board g r w)
+      ∙ ap (gateRun board [] read) (comes-idle board g r w)
       ∙ reads board (r .memory) s (r .ran) (word .0) .comes
 
-  ends : due ≤ k → gateRun board k g ≡ end
-  ends h = sym (stands-on board due k g (sym comes-to-end) still h)
+  ends : due ≤ k → gateRun board [] k g ≡ end
+  ends h = sym (stands-on board [] due k g (sym comes-to-end) still (λ c _ _. refl) h)
 
   -- on the clock before it the read is not done
   abbrev before : ℕ
   before = r .clocks + (1 + waitAt (board .waits) (r .position))
 
-  reading : gateRun board before g .state .row ≡ 1
+  reading : gateRun board [] before g .state .row ≡ 1
   unfolding clock work isAccess gateRun
   reading =
       let wait = waitAt (board .waits) (s .position) in
       let total : before ≡ r .clocks + (1 + wait) = omega (arith, ap (waitAt (board .waits)) (w .position)) in
       ap (λ (g : Gate). g .state .row)
-      (ap (λ (i : ℕ). gateRun board i g) total
+      (ap (λ (i : ℕ). gateRun board [] i g) total
       ∙ run-add board (r .clocks) (1 + wait) g
-      ∙ ap (gateRun board (1 + wait)) (comes-idle board g r w)
+      ∙ ap (gateRun board [] (1 + wait)) (comes-idle board g r w)
       ∙ run-add board 1 wait (gate (idle s) (r .memory) (r .ran)))
       ∙ in-row board (addressPc (r .memory) (idle s)) (r .memory) (r .ran) refl (word .0) (s .position) (s .left) wait refl
 
-  not-before : gateRun board k g .state .row ≡ 12 → Dec (k < due) → due ≤ k
+  not-before : gateRun board [] k g .state .row ≡ 12 → Dec (k < due) → due ≤ k
   not-before q (no h) = omega arith
   not-before q (yes h) =
-      let same = stands-on board k before g refl (halted-stands board (gateRun board k g) q) (omega arith) in
+      let same = stands-on board [] k before g refl (halted-stands board (gateRun board [] k g) q) (λ c _ _. refl) (omega arith) in
       let x : _≡_ {A = ℕ} 12 1 = sym q ∙ ap (λ (g : Gate). g .state .row) same ∙ reading in
       absurd (omega arith)
 
@@ -83,7 +84,7 @@ module _ (board : Board) (g : Gate) (r : Run) (w : Follows board g r) (e : nextE
         finished = refl;
       }
 
-  halted : Halts (board .waits) r k (gateRun board k g)
+  halted : Halts (board .waits) r k (gateRun board [] k g)
   halted =
       record {
         row = (λ q. not-before q (decLt k due), λ h. ap (λ (g : Gate). g .state .row) (ends h) ∙ rw (word .1));

@@ -46,7 +46,7 @@ abbrev start : GateState
 start = atRest (replicate 8 0) noFlags
 
 after : ℕ → Gate
-after k = gateRun (boardWith 0 (1 ∷ 7 ∷ [])) k (gateFrom start (0x4000 ∷ []))
+after k = gateRun (boardWith 0 (1 ∷ 7 ∷ [])) [] k (gateFrom start (0x4000 ∷ []))
 
 -- row 0, the read, its wait; then row 12 with the word latched, at the list's second entry, and nothing more
 halting-read : map after (2 ∷ 3 ∷ 4 ∷ 9 ∷ [])

@@ -2,25 +2,29 @@
 use Prim.Native.Nat.{ℕ, zero, suc, _≤_, _<_}
 use mathlib.Core.Path.{_≡_, refl, ap, _∙_}
 use mathlib.Core.Bool.{Bool, true, false, cond, _&&_, and-eq-true-iff}
-use mathlib.Core.List.{List}
+use mathlib.Core.List.{List, []}
 use native.Mathlib.Omega.{arith}
 use lib.Dec.{eqb, ltb, leb}
 use lib.ListN.{length, getD}
 use borrow.Author.Tests.{lt-ltb, le-leb, leb-true, eqb-true}
+use Rattle.model.specs.declared.Machine.{Machine}
 use Rattle.model.specs.declared.GateState.{GateState}
-use Rattle.model.specs.declared.Refusal.the-variants.{LongWaitList, BadGateState}
+use Rattle.model.specs.declared.Refusal.the-variants.{LongWaitList, BadGateState, ResetsNotRising}
 use Rattle.model.specs.declared.Verdict.the-variants.{Accepted}
 use Rattle.model.specs.Words.{isInstruction, wordAt}
 use Rattle.model.specs.Operands.{operandA, operandB, inMemory}
 use Rattle.model.specs.Alu.{stores}
 use Rattle.model.specs.Waits.{positionFits}
 use Rattle.model.specs.Board.{Board}
-use Rattle.model.specs.GateMachine.{Gate, gate, withAccess, onState, addressPc, readInstruction, stepPc, prepareA, readA, prepareB, readB, compute, writeRegister, writeMemory, stepUpA, stepUpB, halt, rows, work, isAccess, positionNow, clock, gateRun}
-use Rattle.model.specs.Refusals.{mostWaits, _then_, memoryFits, bottomFits, waitsFit, accessFormed, stateFits, gateVerdict}
-use Rattle.model.specs.Agreement.{gateFrom}
+use Rattle.model.specs.Resets.{isReset, rises}
+use Rattle.model.specs.Interpreter.{opB, addressB, aluOut, isStored, accesses, Run, begin, execute, stop, advance, interpret}
+use Rattle.model.specs.GateMachine.{Gate, gate, withAccess, onState, addressPc, readInstruction, stepPc, prepareA, readA, prepareB, readB, compute, writeRegister, writeMemory, stepUpA, stepUpB, halt, rows, work, isAccess, positionNow, clock, resetState, gateRun}
+use Rattle.model.specs.Refusals.{mostWaits, _then_, memoryFits, bottomFits, waitsFit, resetsFit, startFits, accessFormed, stateFits, runVerdict, gateVerdict}
+use Rattle.model.specs.Agreement.{Between, gateFrom}
 use Rattle.model.proofs.Cases.{pick, Each, past, _▸_}
 use Rattle.model.proofs.Operands.{stored-length}
-use Rattle.model.proofs.Waits.{next-fits}
+use Rattle.model.proofs.Waits.{next-fits, after-fits}
+use Rattle.model.proofs.Runs.{one-more}
 use Rattle.model.proofs.Clocks.{accessOver, one-clock}
 use Rattle.model.proofs.Verdicts.{demanded, both}
 
@@ -52,6 +56,15 @@ none-begun s a v = go (s .begun) refl (rw a at v)
     go : (b : Bool) → s .begun ≡ b → cond b (false && ltb 0 (s .left)) (eqb (s .left) 0) ≡ true → (s .begun ≡ false) × (s .left ≡ 0)
     go true e q = (cc, cc)
     go false e q = (e, eqb-true (s .left) 0 q)
+
+-- a start in row 0 with no access begun, at any position: both engines turn it down for the same reason
+pub start-verdict : (memory : List ℕ) (board : Board) (s : GateState) → Between s → s .left ≡ 0 → gateVerdict memory board [] s ≡ runVerdict memory board (s .position)
+unfolding gateVerdict runVerdict
+start-verdict memory board s h l = rw (h .row, h .begun, l, and-true (positionFits (board .waits) (s .position)))
+  where
+    and-true : (t : Bool) → (t && true) ≡ t
+    and-true true = refl
+    and-true false = refl
 
 -- ---- a row leads to a row of the table, and leaves the access in hand and the memory's length
 
@@ -138,46 +151,113 @@ module _ (board : Board) where
       let n = none-begun (g .state) plain (h .valid .access) in
       works words g (h .valid .row) (h .valid .position) (n .0) (n .1) (h .length))
 
-  run-fine : (words k : ℕ) (g : Gate) → Fine (board .waits) words g → Fine (board .waits) words (gateRun board k g)
+  reset-fine : (words : ℕ) (g : Gate) → Fine (board .waits) words g → Fine (board .waits) words (onState (λ memory. resetState) g)
+  reset-fine words g h =
+      record { valid = resting (board .waits) (resetState (g .state)) (omega arith) (h .valid .position) refl refl; length = h .length }
+
+  run-fine : (resets : List ℕ) (words k : ℕ) (g : Gate) → Fine (board .waits) words g → Fine (board .waits) words (gateRun board resets k g)
   unfolding gateRun
-  run-fine words zero g h = h
-  run-fine words (suc k) g h = clock-fine words (gateRun board k g) (run-fine words k g h)
+  run-fine resets words zero g h = h
+  run-fine resets words (suc k) g h =
+      let f = run-fine resets words k g h in
+      pick (Fine (board .waits) words) (isReset resets k) (reset-fine words (gateRun board resets k g) f) (clock-fine words (gateRun board resets k g) f)
 
 -- ---- a call that is carried out
 
 -- nothing that a run asks fails
-record Passed (memory : List ℕ) (board : Board) (start : GateState) : Type 0 where
+record Passed (memory : List ℕ) (board : Board) (resets : List ℕ) (start : GateState) : Type 0 where
   words : memoryFits memory ≡ Accepted
   bottom : bottomFits memory (board .bottom) ≡ Accepted
   list : waitsFit (board .waits) ≡ Accepted
+  rising : resetsFit resets ≡ Accepted
   state : stateFits (board .waits) start ≡ Accepted
 
-module _ (memory : List ℕ) (board : Board) (start : GateState) (e : gateVerdict memory board start ≡ Accepted) where
-  passed : Passed memory board start
+module _ (memory : List ℕ) (board : Board) (resets : List ℕ) (start : GateState) (e : gateVerdict memory board resets start ≡ Accepted) where
+  passed : Passed memory board resets start
   unfolding gateVerdict
   passed =
-      let (m, bws) = both (memoryFits memory) (bottomFits memory (board .bottom) then waitsFit (board .waits) then stateFits (board .waits) start) e in
-      let (b, ws) = both (bottomFits memory (board .bottom)) (waitsFit (board .waits) then stateFits (board .waits) start) bws in
-      let (w, s) = both (waitsFit (board .waits)) (stateFits (board .waits) start) ws in
-      record { words = m; bottom = b; list = w; state = s }
+      let state = stateFits (board .waits) start in
+      let (m, bwrs) = both (memoryFits memory) (bottomFits memory (board .bottom) then waitsFit (board .waits) then resetsFit resets then state) e in
+      let (b, wrs) = both (bottomFits memory (board .bottom)) (waitsFit (board .waits) then resetsFit resets then state) bwrs in
+      let (w, rs) = both (waitsFit (board .waits)) (resetsFit resets then state) wrs in
+      let (r, s) = both (resetsFit resets) state rs in
+      record { words = m; bottom = b; list = w; rising = r; state = s }
+
+  pub resets-rise : rises resets ≡ true
+  resets-rise = demanded _ ResetsNotRising (passed .rising)
 
   pub short : length (board .waits) ≤ mostWaits
   short = leb-true (length (board .waits)) mostWaits (demanded _ LongWaitList (passed .list))
 
   -- every state that the run comes to is one that a run takes
-  comes-fine : (i : ℕ) → Fine (board .waits) (length memory) (gateRun board i (gateFrom start memory))
-  comes-fine i = run-fine board (length memory) i (gateFrom start memory) (record { valid = verdict-valid (board .waits) start (passed .state); length = refl })
+  comes-fine : (i : ℕ) → Fine (board .waits) (length memory) (gateRun board resets i (gateFrom start memory))
+  comes-fine i = run-fine board resets (length memory) i (gateFrom start memory) (record { valid = verdict-valid (board .waits) start (passed .state); length = refl })
 
-  pub row-there : (i : ℕ) {s : GateState} {m : List ℕ} {f : ℕ} → gate s m f ≡ gateRun board i (gateFrom start memory) → s .row < 13
+  pub row-there : (i : ℕ) {s : GateState} {m : List ℕ} {f : ℕ} → gate s m f ≡ gateRun board resets i (gateFrom start memory) → s .row < 13
   row-there i q = rw (ap (λ (g : Gate). g .state .row) q) (comes-fine i .valid .row)
 
-  -- the verdict looks at the memory's length and at the state's validity
-  still-accepted : (g : Gate) → Fine (board .waits) (length memory) g → gateVerdict (g .memory) board (g .state) ≡ Accepted
+  -- the verdict looks at the memory's length, at the state's validity and at the next run's resets
+  still-accepted : (later : List ℕ) → resetsFit later ≡ Accepted → (g : Gate) → Fine (board .waits) (length memory) g → gateVerdict (g .memory) board later (g .state) ≡ Accepted
   unfolding gateVerdict
-  still-accepted g f = rw (f .length, passed .words, passed .bottom, passed .list) (valid-verdict (board .waits) (g .state) (f .valid))
+  still-accepted later l g f = rw (f .length, passed .words, passed .bottom, passed .list, l) (valid-verdict (board .waits) (g .state) (f .valid))
 
-  -- the state and the memory that a run leaves are taken by the next
-  pub next-accepted : (i : ℕ) {s : GateState} {m : List ℕ} {f : ℕ} → gate s m f ≡ gateRun board i (gateFrom start memory) → gateVerdict m board s ≡ Accepted
-  next-accepted i q =
-      ap (λ (g : Gate). gateVerdict (g .memory) board (g .state)) q
-      ∙ still-accepted (gateRun board i (gateFrom start memory)) (comes-fine i)
+  -- the state and the memory that a run leaves are taken by the next, with resets that rise
+  pub next-accepted : (later : List ℕ) → resetsFit later ≡ Accepted → (i : ℕ) {s : GateState} {m : List ℕ} {f : ℕ} → gate s m f ≡ gateRun board resets i (gateFrom start memory) → gateVerdict m board later s ≡ Accepted
+  next-accepted later l i q =
+      ap (λ (g : Gate). gateVerdict (g .memory) board later (g .state)) q
+      ∙ still-accepted later l (gateRun board resets i (gateFrom start memory)) (comes-fine i)
+
+-- ---- a run of the interpreter that is carried out
+
+-- the memory's length, and the position in the list
+record Steady (waits : List ℕ) (words : ℕ) (r : Run) : Type 0 where
+  position : positionFits waits (r .position) ≡ true
+  length : lib.ListN.length (r .memory) ≡ words
+
+advance-steady : (board : Board) (words : ℕ) (r : Run) → Steady (board .waits) words r → Steady (board .waits) words (advance board r)
+unfolding execute stop
+advance-steady board words r h =
+    let memory = r .memory in
+    let m = r .machine in
+    one-more board (Steady (board .waits) words) r
+    (λ _ _.
+    record {
+      position = after-fits (board .waits) (accesses memory m) (r .position) (h .position);
+      length =
+          pick (λ (l : List ℕ). length l ≡ words) (isStored memory m)
+          (pick (λ (l : List ℕ). length l ≡ words) (inMemory (opB memory m)) (stored-length (board .bottom) memory (addressB memory m) (aluOut memory m .result) ∙ h .length) (h .length))
+          (h .length);
+    })
+    (λ _ _. record { position = h .position; length = h .length })
+    (λ _. h)
+
+run-steady : (board : Board) (words n : ℕ) (r : Run) → Steady (board .waits) words r → Steady (board .waits) words (interpret board n r)
+unfolding interpret
+run-steady board words zero r h = h
+run-steady board words (suc n) r h = advance-steady board words (interpret board n r) (run-steady board words n r h)
+
+-- nothing that it asks fails
+pub record RunPassed (memory : List ℕ) (board : Board) (position : ℕ) : Type 0 where
+  pub words : memoryFits memory ≡ Accepted
+  pub bottom : bottomFits memory (board .bottom) ≡ Accepted
+  pub list : waitsFit (board .waits) ≡ Accepted
+  pub short : length (board .waits) ≤ mostWaits
+  pub there : positionFits (board .waits) position ≡ true
+
+pub run-passed : (memory : List ℕ) (board : Board) (position : ℕ) → runVerdict memory board position ≡ Accepted → RunPassed memory board position
+unfolding runVerdict
+run-passed memory board position e =
+    let waits = board .waits in
+    let (m, bwp) = both (memoryFits memory) (bottomFits memory (board .bottom) then waitsFit waits then startFits waits position) e in
+    let (b, wp) = both (bottomFits memory (board .bottom)) (waitsFit waits then startFits waits position) bwp in
+    let (w, p) = both (waitsFit waits) (startFits waits position) wp in
+    record { words = m; bottom = b; list = w; short = leb-true (length waits) mostWaits (demanded _ LongWaitList w); there = demanded _ BadGateState p }
+
+-- the memory and the position that a run leaves are taken by the next
+pub run-accepts-next : (memory : List ℕ) (board : Board) (position : ℕ) (m : Machine) (n : ℕ) → runVerdict memory board position ≡ Accepted
+    → let r = interpret board n (begin m memory position) in runVerdict (r .memory) board (r .position) ≡ Accepted
+unfolding runVerdict
+run-accepts-next memory board position m n e =
+    let p = run-passed memory board position e in
+    let s = run-steady board (length memory) n (begin m memory position) (record { position = p .there; length = refl }) in
+    rw (s .length, p .words, p .bottom, p .list, s .position)

@@ -8,9 +8,10 @@ use lib.Dec.{ltb, leb, leb·zero}
 use lib.ListN.{length}
 use borrow.Author.Tests.{ltb-true, lt-ltb, le-leb, leb-true}
 use Rattle.model.specs.declared.Refusal.{Refusal}
-use Rattle.model.specs.declared.Refusal.the-variants.{NoWords, TooManyWords, LongWaitList, BadGateState, TooManyInstructions, ShortJournal, ShortOutput, CutImage, WrongTag, WrongLength, WrongVersion, BadFlag, BadWordCount, ShortMemory, TrailingBytes, BottomTooHigh}
+use Rattle.model.specs.declared.Refusal.the-variants.{NoWords, TooManyWords, LongWaitList, BadGateState, TooManyInstructions, ShortJournal, ShortOutput, CutImage, WrongTag, WrongLength, WrongVersion, BadFlag, BadWordCount, ShortMemory, TrailingBytes, BottomTooHigh, ResetsNotRising}
 use Rattle.model.specs.declared.Verdict.{Verdict}
 use Rattle.model.specs.declared.Verdict.the-variants.{Accepted, Refused}
+use Rattle.model.specs.Waits.{positionFits}
 use Rattle.model.specs.Board.{boardWith}
 use Rattle.model.specs.Refusals.{refusalNumber, verdictNumber, mostWords, mostInstructions, demand, _then_, memoryFits, bottomFits, runVerdict, fileVerdict}
 
@@ -38,9 +39,9 @@ memory-bounds memory e =
 pub memory-accepted : (memory : List ℕ) → 0 < length memory → length memory ≤ mostWords → memoryFits memory ≡ Accepted
 memory-accepted memory some most = rw (lt-ltb 0 (length memory) some, le-leb (length memory) mostWords most)
 
--- a run on such a memory with no wait list and the bottom at 0
-pub run-accepted : (memory : List ℕ) → 0 < length memory → length memory ≤ mostWords → runVerdict memory (boardWith 0 []) ≡ Accepted
-unfolding runVerdict
+-- a run on such a memory with the bottom at 0, no wait list and so position 0
+pub run-accepted : (memory : List ℕ) → 0 < length memory → length memory ≤ mostWords → runVerdict memory (boardWith 0 []) 0 ≡ Accepted
+unfolding runVerdict positionFits
 run-accepted memory some most = rw (memory-accepted memory some most, leb·zero (length memory))
 
 -- the journal of an accepted file run has room for every pair
@@ -51,8 +52,8 @@ room-for-all memory bottom journal count p e =
     let room = demand (leb (2 * count) (length journal)) ShortJournal in
     leb-true (2 * count) (length journal) (demanded (leb (2 * count) (length journal)) ShortJournal (both few room (both (bottomFits memory bottom) (few then room) (both (memoryFits memory) (bottomFits memory bottom then few then room) (sym e ∙ p) .1) .1) .1))
 
--- a refusal has a number from 1 to 21
-pub numbered : (why : Refusal) → (1 ≤ refusalNumber why) × (refusalNumber why ≤ 21)
+-- a refusal has a number from 1 to 22
+pub numbered : (why : Refusal) → (1 ≤ refusalNumber why) × (refusalNumber why ≤ 22)
 numbered NoWords = (omega arith, omega arith)
 numbered TooManyWords = (omega arith, omega arith)
 numbered LongWaitList = (omega arith, omega arith)
@@ -69,6 +70,7 @@ numbered BadWordCount = (omega arith, omega arith)
 numbered ShortMemory = (omega arith, omega arith)
 numbered TrailingBytes = (omega arith, omega arith)
 numbered BottomTooHigh = (omega arith, omega arith)
+numbered ResetsNotRising = (omega arith, omega arith)
 
 pub accepted : (v : Verdict) → verdictNumber v ≡ 0 → v ≡ Accepted
 accepted Accepted e = refl

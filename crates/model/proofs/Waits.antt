@@ -65,6 +65,15 @@ module _ (waits : List ℕ) where
       go true = refl
       go false = lt-ltb p (length waits) h
 
+  -- a position that fits is no more than the list's length
+  pub fits-low : (p most : ℕ) → length waits ≤ most → positionFits waits p ≡ true → p ≤ most
+  unfolding positionFits
+  fits-low p most short = go (eqb p 0) refl
+    where
+      go : (t : Bool) → eqb p 0 ≡ t → (t || ltb p (length waits)) ≡ true → p ≤ most
+      go true e _ = omega (arith, eqb-true p 0 e)
+      go false _ e = omega (arith, ltb-true p (length waits) e)
+
   -- a position that fits and has no entry is 0
   pub fits-past : (p : ℕ) → positionFits waits p ≡ true → length waits ≤ p → p ≡ 0
   unfolding positionFits

@@ -1,5 +1,5 @@
 -- CR 6: when a bottom is turned down, what the bottom of memory keeps, and that it changes nothing else: where nothing is stored below it, a
--- run, a file run and a gate run do what they do with the bottom at 0.
+-- run, a file run and a gate run, with resets too (CR 7), do what they do with the bottom at 0.
 use Prim.Native.Nat.{ℕ, zero, suc, _<_}
 use mathlib.Core.Path.{_≡_}
 use mathlib.Core.Bool.{Bool, true, not, _&&_}
@@ -13,6 +13,7 @@ use Rattle.model.specs.declared.Verdict.{Verdict}
 use Rattle.model.specs.declared.Verdict.the-variants.{Accepted, Refused}
 use Rattle.model.specs.Words.{present, storeWord, alterable, storeAbove}
 use Rattle.model.specs.Board.{Board, boardWith}
+use Rattle.model.specs.Resets.{isReset}
 use Rattle.model.specs.Interpreter.{goesOn, addressB, nextRuns, storesToMemory, Run, interpret}
 use Rattle.model.specs.Journal.{journalPairs}
 use Rattle.model.specs.GateMachine.{Gate, remaining, gateRun}
@@ -20,11 +21,11 @@ use Rattle.model.specs.Refusals.{memoryFits, runVerdict, fileVerdict, ga
 
 -- ---- 21 directly after 2
 
--- every kind of run under the board is judged so, whatever its list, state, journal and count
+-- every kind of run under the board is judged so, whatever its position, resets, state, journal and count
 pub record Judged (memory : List ℕ) (board : Board) (v : Verdict) : Type 0 where
-  pub run : runVerdict memory board ≡ v
+  pub run : (position : ℕ) → runVerdict memory board position ≡ v
   pub file : (journal : List ℕ) (n : ℕ) → fileVerdict memory (board .bottom) journal n ≡ v
-  pub gate : (s : GateState) → gateVerdict memory board s ≡ v
+  pub gate : (resets : List ℕ) (s : GateState) → gateVerdict memory board resets s ≡ v
 
 abbrev pub MemoryFirst : Type 0
 MemoryFirst = (memory : List ℕ) (board : Board) (why : Refusal) → memoryFits memory ≡ Refused why → Judged memory board (Refused why)
@@ -36,10 +37,14 @@ BottomNext =
 -- ---- neither engine alters the words below the bottom
 
 abbrev pub RunKeepsBottom : Type 0
-RunKeepsBottom = (board : Board) (n : ℕ) (r : Run) → take (board .bottom) (interpret board n r .memory) ≡ take (board .bottom) (r .memory)
+RunKeepsBottom =
+    (board : Board) (n : ℕ) (r : Run) →
+    take (board .bottom) (interpret board n r .memory) ≡ take (board .bottom) (r .memory)
 
 abbrev pub GateKeepsBottom : Type 0
-GateKeepsBottom = (board : Board) (k : ℕ) (g : Gate) → take (board .bottom) (gateRun board k g .memory) ≡ take (board .bottom) (g .memory)
+GateKeepsBottom =
+    (board : Board) (resets : List ℕ) (k : ℕ) (g : Gate) →
+    take (board .bottom) (gateRun board resets k g .memory) ≡ take (board .bottom) (g .memory)
 
 -- ---- "never stores below P"
 
@@ -59,15 +64,15 @@ storesBelow bottom r =
 abbrev pub neverStoresBelow : (bottom : ℕ) → Board → ℕ → Run → Bool
 neverStoresBelow bottom board n r = never (λ i. storesBelow bottom (interpret board i r)) n
 
--- the next clock completes row 9, at an address below the bottom
-abbrev pub clockStoresBelow : (bottom : ℕ) → Board → Gate → Bool
-clockStoresBelow bottom board g =
+-- the next clock is no reset (CR 7) and completes row 9, at an address below the bottom
+abbrev pub clockStoresBelow : (bottom : ℕ) → Board → (held : Bool) → Gate → Bool
+clockStoresBelow bottom board held g =
     let s = g .state in
-    eqb (s .row) 9 && present (g .memory) (s .address) && eqb (remaining (board .waits) s) 0 && not (alterable bottom (s .address))
+    not held && eqb (s .row) 9 && present (g .memory) (s .address) && eqb (remaining (board .waits) s) 0 && not (alterable bottom (s .address))
 
 -- none of k clocks does
-abbrev pub noClockStoresBelow : (bottom : ℕ) → Board → ℕ → Gate → Bool
-noClockStoresBelow bottom board k g = never (λ i. clockStoresBelow bottom board (gateRun board i g)) k
+abbrev pub noClockStoresBelow : (bottom : ℕ) → Board → (resets : List ℕ) → ℕ → Gate → Bool
+noClockStoresBelow bottom board resets k g = never (λ i. clockStoresBelow bottom board (isReset resets i) (gateRun board resets i g)) k
 
 -- ---- as with the bottom at 0
 
@@ -90,7 +95,8 @@ RunAsLevel = (board : Board) (n : ℕ) (r : Run) → neverStoresBelow (board .bo
 -- gate run: the same state, memory and count
 abbrev pub GateAsLevel : Type 0
 GateAsLevel =
-    (board : Board) (k : ℕ) (g : Gate) → noClockStoresBelow (board .bottom) board k g ≡ true → gateRun board k g ≡ gateRun (level board) k g
+    (board : Board) (resets : List ℕ) (k : ℕ) (g : Gate) → noClockStoresBelow (board .bottom) board resets k g ≡ true
+    → gateRun board resets k g ≡ gateRun (level board) resets k g
 
 -- whether a program stores below the bottom is the same with the bottom in force and with the bottom at 0
 abbrev pub NeverAsLevel : Type 0
@@ -99,13 +105,16 @@ NeverAsLevel =
 
 abbrev pub NoClockAsLevel : Type 0
 NoClockAsLevel =
-    (board : Board) (k : ℕ) (g : Gate) → noClockStoresBelow (board .bottom) board k g ≡ noClockStoresBelow (board .bottom) (level board) k g
+    (board : Board) (resets : List ℕ) (k : ℕ) (g : Gate) →
+    noClockStoresBelow (board .bottom) board resets k g ≡ noClockStoresBelow (board .bottom) (level board) resets k g
 
 -- what is not turned down with a bottom is not turned down with the bottom at 0
 pub record LevelAccepted (memory : List ℕ) (board : Board) : Type 0 where
-  pub run : runVerdict memory board ≡ Accepted → runVerdict memory (level board) ≡ Accepted
-  pub file : (journal : List ℕ) (n : ℕ) → fileVerdict memory (board .bottom) journal n ≡ Accepted → fileVerdict memory 0 journal n ≡ Accepted
-  pub gate : (s : GateState) → gateVerdict memory board s ≡ Accepted → gateVerdict memory (level board) s ≡ Accepted
+  pub run : (position : ℕ) → runVerdict memory board position ≡ Accepted → runVerdict memory (level board) position ≡ Accepted
+  pub file : (journal : List ℕ) (n : ℕ) → fileVerdict memory (board .bottom) journal n ≡ Accepted
+      → fileVerdict memory 0 journal n ≡ Accepted
+  pub gate : (resets : List ℕ) (s : GateState) → gateVerdict memory board resets s ≡ Accepted
+      → gateVerdict memory (level board) resets s ≡ Accepted
 
 abbrev pub AcceptedAsLevel : Type 0
 AcceptedAsLevel = (memory : List ℕ) (board : Board) → LevelAccepted memory board

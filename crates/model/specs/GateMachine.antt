@@ -1,9 +1,9 @@
--- The gate machine: thirteen rows of a step table, the access protocol, one clock, and the run of k clocks. Document 01, "Clocks"; CR 5
--- and CR 6.
+-- The gate machine: thirteen rows of a step table, the access protocol, one clock, reset, and the run of k clocks. Document 01, "Clocks";
+-- CR 5, CR 6 and CR 7.
 use Prim.Native.Nat.{ℕ, zero, suc, _+_, _-_}
 use mathlib.Core.Bool.{Bool, true, false, cond}
 use mathlib.Core.List.{List, [], _∷_}
-use lib.ListN.{getD}
+use lib.ListN.{getD, set}
 use Rattle.model.specs.declared.Flags.{Flags}
 use Rattle.model.specs.declared.Operand.{Operand}
 use Rattle.model.specs.declared.GateState.{GateState}
@@ -12,6 +12,7 @@ use Rattle.model.specs.Operands.{operandA, operandB, inMemory, stepped, 
 use Rattle.model.specs.Alu.{alu, flagsAfter, stores}
 use Rattle.model.specs.Waits.{waitAt, nextPosition}
 use Rattle.model.specs.Board.{Board}
+use Rattle.model.specs.Resets.{isReset}
 
 -- ---- a state, part by part, and with one part changed
 
@@ -199,6 +200,16 @@ clock board g =
     (cond (present (g .memory) (s .address)) (workOrWait (board .bottom) (remaining waits s) (positionNow waits s) g) g)
     (work (board .bottom) g)
 
-unfoldable pub gateRun : Board → ℕ → Gate → Gate
-gateRun board zero g = g
-gateRun board (suc k) g = clock board (gateRun board k g)
+-- ---- reset (CR 7), and the run
+
+-- "r0 becomes 0, the row becomes 0 and a begun access is dropped, its wait entry used up": all else stays, the list position too
+abbrev pub resetState : GateState → GateState
+resetState s = withRow 0 (withAccess (s .position) false 0 (withRegs (set (s .regs) 0 0) s))
+
+-- a clock on which reset is held does no row's work, and so finishes nothing
+abbrev pub resetOrClock : Board → (held : Bool) → Gate → Gate
+resetOrClock board held g = cond held (onState (λ memory. resetState) g) (clock board g)
+
+unfoldable pub gateRun : Board → (resets : List ℕ) → (clocks : ℕ) → Gate → Gate
+gateRun board resets zero g = g
+gateRun board resets (suc k) g = resetOrClock board (isReset resets k) (gateRun board resets k g)

@@ -3,7 +3,7 @@ use Prim.Native.Nat.{ℕ, _+_, _≤_}
 use mathlib.Core.Path.{_≡_}
 use mathlib.Core.Logic.{_↔_}
 use mathlib.Core.Bool.{false}
-use mathlib.Core.List.{List}
+use mathlib.Core.List.{List, []}
 use Rattle.model.specs.declared.GateState.{GateState}
 use Rattle.model.specs.declared.Ending.the-variants.{NoInstruction}
 use Rattle.model.specs.Waits.{waitAt, nextPosition}
@@ -31,9 +31,9 @@ pub record Halts (waits : List ℕ) (r : Run) (k : ℕ) (g : Gate) : Type 0 wher
   pub row : g .state .row ≡ 12 ↔ (haltedAfter waits r ≤ k)
   pub halted : haltedAfter waits r ≤ k → Halted waits r g
 
--- whatever the program, the state and the board, wherever the run ends "no instruction"
+-- whatever the program, the state and the board, wherever the run ends "no instruction"; without resets
 abbrev pub Halting : Type 0
 Halting =
     (board : Board) (s : GateState) (memory : List ℕ) (n k : ℕ) → Between s →
     let r = interpret board n (interpreterFrom s memory) in
-    r .ending ≡ NoInstruction → Halts (board .waits) r k (gateRun board k (gateFrom s memory))
+    r .ending ≡ NoInstruction → Halts (board .waits) r k (gateRun board [] k (gateFrom s memory))

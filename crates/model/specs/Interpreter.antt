@@ -1,5 +1,5 @@
 -- The interpreter: one instruction in the order (i) to (vi), its clocks, and the run of n instructions with "outside" and "no
--- instruction". Document 01, "Machine and instruction word" and, for the clocks, "Clocks"; CR 5 and CR 6.
+-- instruction". Document 01, "Machine and instruction word" and, for the clocks, "Clocks"; CR 5 to CR 7.
 use Prim.Native.Nat.{ℕ, zero, suc, _+_}
 use mathlib.Core.Bool.{Bool, true, false, cond, _&&_}
 use mathlib.Core.List.{List}
@@ -136,7 +136,8 @@ pub record Run : Type 0 where
   pub clocks : ℕ
   pub ending : Ending
 
-abbrev pub begin : Machine → List ℕ → ℕ → Run
+-- CR 7: from a position in the wait list
+abbrev pub begin : Machine → List ℕ → (position : ℕ) → Run
 begin m memory position =
     record { machine = m; memory = memory; position = position; ran = 0; clocks = 0; ending = Finished }
 

@@ -1,5 +1,5 @@
 -- Why a call is turned down: the reasons' numbers, what a call leaves, the limits, and the first reason that applies to each run. Document
--- 01, "Why a call is turned down"; CR 3, CR 5 and CR 6.
+-- 01, "Why a call is turned down"; CR 3, CR 5, CR 6 and CR 7.
 use Prim.Native.Nat.{ℕ, _*_}
 use mathlib.Core.Bool.{Bool, true, false, cond, _&&_}
 use mathlib.Core.List.{List}
@@ -7,11 +7,12 @@ use lib.Dec.{eqb, ltb, leb}
 use lib.ListN.{length}
 use Rattle.model.specs.declared.GateState.{GateState}
 use Rattle.model.specs.declared.Refusal.{Refusal}
-use Rattle.model.specs.declared.Refusal.the-variants.{NoWords, TooManyWords, LongWaitList, BadGateState, TooManyInstructions, ShortJournal, ShortOutput, CutImage, WrongTag, WrongLength, WrongVersion, BadFlag, BadWordCount, ShortMemory, TrailingBytes, BottomTooHigh}
+use Rattle.model.specs.declared.Refusal.the-variants.{NoWords, TooManyWords, LongWaitList, BadGateState, TooManyInstructions, ShortJournal, ShortOutput, CutImage, WrongTag, WrongLength, WrongVersion, BadFlag, BadWordCount, ShortMemory, TrailingBytes, BottomTooHigh, ResetsNotRising}
 use Rattle.model.specs.declared.Verdict.{Verdict}
 use Rattle.model.specs.declared.Verdict.the-variants.{Accepted, Refused}
 use Rattle.model.specs.Waits.{positionFits}
 use Rattle.model.specs.Board.{Board}
+use Rattle.model.specs.Resets.{rises}
 use Rattle.model.specs.GateMachine.{isAccess}
 
 abbrev pub refusalNumber : Refusal → ℕ
@@ -31,6 +32,7 @@ refusalNumber BadWordCount = 13
 refusalNumber ShortMemory = 14
 refusalNumber TrailingBytes = 15
 refusalNumber BottomTooHigh = 21
+refusalNumber ResetsNotRising = 22
 
 -- 0 for a call that is carried out
 abbrev pub verdictNumber : Verdict → ℕ
@@ -73,8 +75,16 @@ bottomFits memory bottom = demand (leb bottom (length memory)) BottomTooHigh
 abbrev pub waitsFit : List ℕ → Verdict
 waitsFit waits = demand (leb (length waits) mostWaits) LongWaitList
 
--- 4: a row above 12 (CR 5), a position that does not fit the list (CR 3), an access begun outside rows 1, 4, 6, 9 or with no clocks left,
--- clocks left with none begun
+-- CR 7: 22, of the whole list, numbers at or past the clocks of the run too
+abbrev pub resetsFit : List ℕ → Verdict
+resetsFit resets = demand (rises resets) ResetsNotRising
+
+-- CR 7: 4, of the list position that the interpreter is given
+abbrev pub startFits : (waits : List ℕ) → (position : ℕ) → Verdict
+startFits waits position = demand (positionFits waits position) BadGateState
+
+-- 4, of a gate state: a row above 12 (CR 5), a position that does not fit the list (CR 3), an access begun outside rows 1, 4, 6, 9 or with no
+-- clocks left, clocks left with none begun
 abbrev pub accessFormed : GateState → Bool
 accessFormed s = cond (s .begun) (isAccess (s .row) && ltb 0 (s .left)) (eqb (s .left) 0)
 
@@ -88,12 +98,13 @@ journalFits journal n =
 
 -- ---- the first reason to turn down a run, a file run, a gate run
 
-unfoldable pub runVerdict : (memory : List ℕ) → Board → Verdict
-runVerdict memory board = memoryFits memory then bottomFits memory (board .bottom) then waitsFit (board .waits)
+unfoldable pub runVerdict : (memory : List ℕ) → Board → (position : ℕ) → Verdict
+runVerdict memory board position =
+    memoryFits memory then bottomFits memory (board .bottom) then waitsFit (board .waits) then startFits (board .waits) position
 
 unfoldable pub fileVerdict : (memory : List ℕ) → (bottom : ℕ) → (journal : List ℕ) → ℕ → Verdict
 fileVerdict memory bottom journal n = memoryFits memory then bottomFits memory bottom then journalFits journal n
 
-unfoldable pub gateVerdict : (memory : List ℕ) → Board → GateState → Verdict
-gateVerdict memory board s =
-    memoryFits memory then bottomFits memory (board .bottom) then waitsFit (board .waits) then stateFits (board .waits) s
+unfoldable pub gateVerdict : (memory : List ℕ) → Board → (resets : List ℕ) → GateState → Verdict
+gateVerdict memory board resets s =
+    memoryFits memory then bottomFits memory (board .bottom) then waitsFit (board .waits) then resetsFit resets then stateFits (board .waits) s

@@ -67,7 +67,7 @@ passes c =
     let s = startOf c in
     let board = boardWith 0 (c .waits) in
     let r = interpret board 1 (interpreterFrom s (c .memory)) in
-    let g = gateRun board (r .clocks) (gateFrom s (c .memory)) in
+    let g = gateRun board [] (r .clocks) (gateFrom s (c .memory)) in
     hasAll (interpreterMark r) (r .clocks) (c .expected) && hasAll (gateMark g) (r .clocks) (c .expected)
 
 abbrev pub allPass : List Case → Bool

@@ -28,6 +28,7 @@ pub fn refusal_number(why: Refusal) -> u32
         Refusal::ShortMemory => 14,
         Refusal::TrailingBytes => 15,
         Refusal::BottomTooHigh => 21,
+        Refusal::ResetsNotRising => 22,
     }
 }
 

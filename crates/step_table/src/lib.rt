@@ -4,7 +4,7 @@ ghost use Rattle.step_table.specs.Table.{stepTable};
 
 pub const LAST_ROW: u8 = 12;
 
-// Marks: the row is an access; an instruction finishes; the machine stays for ever.
+// Marks: the row is an access; an instruction finishes; the machine stays until a reset.
 pub const ACCESS: u8 = 1;
 
 pub const FINISHES: u8 = 2;

@@ -1,5 +1,6 @@
 // The first reason to turn down a run, a file run and a gate run, in the papers' order.
 mod gate_state;
+mod rising;
 
 use gate_state::access_formed;
 use model::GateState;
@@ -8,11 +9,12 @@ use model::Verdict;
 use refusals::demand;
 use refusals::memory_fits;
 use refusals::then;
+use rising::rise;
 use step_table::LAST_ROW;
 use wait_list::position_fits;
 ghost use mathlib.Core.Path.{_≡_};
 ghost use Rattle.model.specs.Board.{boardWith};
-ghost use Rattle.model.specs.Refusals.{bottomFits, waitsFit, stateFits, journalFits, runVerdict, fileVerdict, gateVerdict};
+ghost use Rattle.model.specs.Refusals.{bottomFits, waitsFit, resetsFit, startFits, stateFits, journalFits, runVerdict, fileVerdict, gateVerdict};
 
 // The most entries of a wait list, and instructions of a file run.
 const MOST_WAITS: usize = 65_536;
@@ -33,7 +35,24 @@ fn waits_fit(waits: &[u16]) -> Verdict
     demand(waits.len() <= MOST_WAITS, Refusal::LongWaitList)
 }
 
-// Reason 4.
+// Reason 22.
+fn resets_fit(resets: &[u64]) -> Verdict
+    ensures { λ r. ⌜ r ≡ resetsFit (now (resets .entry)) ⌝ }
+{
+    demand(rise(resets), Refusal::ResetsNotRising)
+}
+
+// Reason 4, of the list position that a run of the interpreter starts at.
+fn start_fits(waits: &[u16], position: u32) -> Verdict
+    ensures { λ r. ⌜ r ≡ startFits (now (waits .entry)) position ⌝ }
+{
+    demand(
+        position_fits(waits, position as usize),
+        Refusal::BadGateState,
+    )
+}
+
+// Reason 4, of a gate state.
 fn state_fits(waits: &[u16], s: GateState) -> Verdict
     ensures { λ r. ⌜ r ≡ stateFits (now (waits .entry)) s ⌝ }
 {
@@ -54,14 +73,15 @@ fn journal_fits(journal: &[u32], count: u32) -> Verdict
     )
 }
 
-pub fn run_verdict(memory: &[u32], bottom: u32, waits: &[u16]) -> Verdict
-    ensures { λ r. ⌜ r ≡ runVerdict (now (memory .entry)) (boardWith bottom (now (waits .entry))) ⌝ }
+pub fn run_verdict(memory: &[u32], bottom: u32, waits: &[u16], position: u32) -> Verdict
+    ensures { λ r. ⌜ r ≡ runVerdict (now (memory .entry)) (boardWith bottom (now (waits .entry))) position ⌝ }
 {
-    // 1 and 2; 21; 3.
+    // 1 and 2; 21; 3; 4.
     let words = memory_fits(memory);
     let base = bottom_fits(memory, bottom);
     let list = waits_fit(waits);
-    then(words, then(base, list))
+    let place = start_fits(waits, position);
+    then(words, then(base, then(list, place)))
 }
 
 pub fn file_verdict(memory: &[u32], bottom: u32, journal: &[u32], count: u32) -> Verdict
@@ -74,13 +94,20 @@ pub fn file_verdict(memory: &[u32], bottom: u32, journal: &[u32], count: u32) ->
     then(words, then(base, room))
 }
 
-pub fn gate_verdict(memory: &[u32], bottom: u32, waits: &[u16], s: GateState) -> Verdict
-    ensures { λ r. ⌜ r ≡ gateVerdict (now (memory .entry)) (boardWith bottom (now (waits .entry))) s ⌝ }
+pub fn gate_verdict(
+    memory: &[u32],
+    bottom: u32,
+    waits: &[u16],
+    resets: &[u64],
+    s: GateState,
+) -> Verdict
+    ensures { λ r. ⌜ r ≡ gateVerdict (now (memory .entry)) (boardWith bottom (now (waits .entry))) (now (resets .entry)) s ⌝ }
 {
-    // 1 and 2; 21; 3; 4.
+    // 1 and 2; 21; 3; 22; 4.
     let words = memory_fits(memory);
     let base = bottom_fits(memory, bottom);
     let list = waits_fit(waits);
+    let line = resets_fit(resets);
     let state = state_fits(waits, s);
-    then(words, then(base, then(list, state)))
+    then(words, then(base, then(list, then(line, state))))
 }

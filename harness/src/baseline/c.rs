@@ -11,6 +11,7 @@ mod raw {
             bottom: u32,
             waits: *const u16,
             waits_entries: usize,
+            position: u32,
             machine: *mut u32,
             count: u32,
             result: *mut u64,
@@ -30,6 +31,8 @@ mod raw {
             bottom: u32,
             waits: *const u16,
             waits_entries: usize,
+            resets: *const u64,
+            resets_numbers: usize,
             state: *mut u32,
             clocks: u64,
             result: *mut u64,
@@ -62,13 +65,14 @@ mod raw {
 
 // Safety of all calls: the slices are borrowed for the call, and the bench lends
 // what the baselines expect without checking it: a machine of 12 words or a
-// state of 21, enough result places, enough room for journal and output, and
-// good images only.
+// state of 21, enough result places, enough room for journal and output, list
+// positions within their lists, reset lists that rise, and good images only.
 
 pub fn run(
     memory: &mut [u32],
     bottom: u32,
     waits: &[u16],
+    position: u32,
     machine: &mut [u32],
     count: u32,
     result: &mut [u64],
@@ -80,6 +84,7 @@ pub fn run(
             bottom,
             waits.as_ptr(),
             waits.len(),
+            position,
             machine.as_mut_ptr(),
             count,
             result.as_mut_ptr(),
@@ -112,6 +117,7 @@ pub fn gate_run(
     memory: &mut [u32],
     bottom: u32,
     waits: &[u16],
+    resets: &[u64],
     state: &mut [u32],
     clocks: u64,
     result: &mut [u64],
@@ -123,6 +129,8 @@ pub fn gate_run(
             bottom,
             waits.as_ptr(),
             waits.len(),
+            resets.as_ptr(),
+            resets.len(),
             state.as_mut_ptr(),
             clocks,
             result.as_mut_ptr(),

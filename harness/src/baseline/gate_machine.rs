@@ -29,20 +29,34 @@ const IS_ACCESS: [bool; 13] = [
     false, true, false, false, true, false, true, false, false, true, false, false, false,
 ];
 
+/// What became of one clock.
+enum Clock {
+    Moved,
+    Finished,
+    /// Nothing changes any more before a reset.
+    Stays,
+}
+
 #[inline(never)]
 pub fn gate_run(
     memory: &mut [u32],
     bottom: u32,
     waits: &[u16],
+    resets: &[u64],
     words: &mut [u32],
     clocks: u64,
     result: &mut [u64],
 ) -> u32 {
     let mut state = State::of(words);
     let mut finished = 0;
-    for _ in 0..clocks {
-        finished += u64::from(state.clock(memory, bottom, waits));
+    // The clock after the last reset.
+    let mut begin = 0;
+    for &reset in resets.iter().take_while(|&&reset| reset < clocks) {
+        finished += state.clocks(memory, bottom, waits, reset - begin);
+        state.reset();
+        begin = reset + 1;
     }
+    finished += state.clocks(memory, bottom, waits, clocks - begin);
     state.give(words);
     result[0] = finished;
     DONE
@@ -87,13 +101,36 @@ impl State {
         ]);
     }
 
-    /// Returns whether an instruction finished.
+    /// Returns how many instructions finished.
     #[inline(always)]
-    fn clock(&mut self, memory: &mut [u32], bottom: u32, waits: &[u16]) -> bool {
+    fn clocks(&mut self, memory: &mut [u32], bottom: u32, waits: &[u16], clocks: u64) -> u64 {
+        let mut finished = 0;
+        for _ in 0..clocks {
+            match self.clock(memory, bottom, waits) {
+                Clock::Moved => {}
+                Clock::Finished => finished += 1,
+                Clock::Stays => break,
+            }
+        }
+        finished
+    }
+
+    fn reset(&mut self) {
+        self.registers[0] = 0;
+        self.row = 0;
+        self.begun = false;
+        self.left = 0;
+    }
+
+    #[inline(always)]
+    fn clock(&mut self, memory: &mut [u32], bottom: u32, waits: &[u16]) -> Clock {
         let row = self.row as usize;
         let mut next = NEXT[row];
-        if IS_ACCESS[row] && !self.access(memory.len(), waits) {
-            return false;
+        if IS_ACCESS[row] && self.address as usize >= memory.len() {
+            return Clock::Stays;
+        }
+        if IS_ACCESS[row] && !self.access(waits) {
+            return Clock::Moved;
         }
         let a = Operand::of(self.instruction);
         let b = Operand::of(self.instruction >> 5);
@@ -114,19 +151,21 @@ impl State {
             8 => self.registers[b.register] = self.result,
             9 if self.address >= bottom => memory[self.address as usize] = self.result,
             10 => a.step_up(&mut self.registers),
-            11 => b.step_up(&mut self.registers),
+            11 => {
+                b.step_up(&mut self.registers);
+                self.row = 0;
+                return Clock::Finished;
+            }
+            12.. => return Clock::Stays,
             _ => {}
         }
         self.row = next;
-        row == 11
+        Clock::Moved
     }
 
-    /// Whether the access completes on this clock.
+    /// Whether the access, to a word that is there, completes on this clock.
     #[inline(always)]
-    fn access(&mut self, words: usize, waits: &[u16]) -> bool {
-        if self.address as usize >= words {
-            return false;
-        }
+    fn access(&mut self, waits: &[u16]) -> bool {
         if self.begun {
             self.left -= 1;
             self.begun = self.left > 0;

@@ -33,17 +33,16 @@ pub fn run(
     memory: &mut [u32],
     bottom: u32,
     waits: &[u16],
+    position: u32,
     machine: &mut [u32],
     count: u32,
     result: &mut [u64],
 ) -> u32 {
-    let ran = if waits.is_empty() {
-        plain_run::<false>(memory, bottom, waits, machine, count)
+    if waits.is_empty() {
+        plain_run::<false>(memory, bottom, waits, position, machine, count, result)
     } else {
-        plain_run::<true>(memory, bottom, waits, machine, count)
-    };
-    result.copy_from_slice(&[u64::from(ran.count), ran.clocks]);
-    ran.code
+        plain_run::<true>(memory, bottom, waits, position, machine, count, result)
+    }
 }
 
 #[inline(never)]
@@ -51,14 +50,19 @@ fn plain_run<const WAITS: bool>(
     memory: &mut [u32],
     bottom: u32,
     waits: &[u16],
+    position: u32,
     machine: &mut [u32],
     count: u32,
-) -> Ran {
+    result: &mut [u64],
+) -> u32 {
     let mut registers = registers_of(machine);
     let mut engine = Engine::<WAITS, false>::new(machine, memory, bottom, waits, &mut []);
+    engine.position = position as usize;
     let ran = engine.run(&mut registers, count);
     engine.give(&registers, machine);
-    ran
+    let position = engine.position as u64;
+    result.copy_from_slice(&[u64::from(ran.count), ran.clocks, position]);
+    ran.code
 }
 
 #[inline(never)]
@@ -129,9 +133,12 @@ impl<'a, const WAITS: bool, const JOURNAL: bool> Engine<'a, WAITS, JOURNAL> {
             code: DONE,
         };
         while ran.count < count {
+            let position = self.position;
             match self.step(registers) {
                 Ok(clocks) => ran.clocks += clocks,
                 Err(code) => {
+                    // An instruction that does not run may have taken entries.
+                    self.position = position;
                     ran.code = code;
                     break;
                 }

@@ -13,9 +13,9 @@ mod word_unit;
 use fm8502::library;
 
 /// The calls, with their arguments as in [`fm8502::library`].
-type Run = fn(&mut [u32], u32, &[u16], &mut [u32], u32, &mut [u64]) -> u32;
+type Run = fn(&mut [u32], u32, &[u16], u32, &mut [u32], u32, &mut [u64]) -> u32;
 type FileRun = fn(&mut [u32], u32, &mut [u32], &mut [u32], u32, &mut [u64]) -> u32;
-type GateRun = fn(&mut [u32], u32, &[u16], &mut [u32], u64, &mut [u64]) -> u32;
+type GateRun = fn(&mut [u32], u32, &[u16], &[u64], &mut [u32], u64, &mut [u64]) -> u32;
 type ImageRead = fn(&[u8], &mut [u32], &mut [u32], &mut [u64]) -> u32;
 type ImageWrite = fn(&[u32], &[u32], &mut [u8], &mut [u64]) -> u32;
 

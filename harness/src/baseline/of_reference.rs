@@ -9,13 +9,14 @@ pub fn run(
     memory: &mut [u32],
     bottom: u32,
     waits: &[u16],
+    position: u32,
     words: &mut [u32],
     count: u32,
     result: &mut [u64],
 ) -> u32 {
-    let ran = reference::run(memory, bottom, waits, machine_of(words), count);
+    let ran = reference::run(memory, bottom, waits, position, machine_of(words), count);
     words.copy_from_slice(&machine_words(&ran.machine));
-    result.copy_from_slice(&[u64::from(ran.ran), ran.clocks]);
+    result.copy_from_slice(&[u64::from(ran.ran), ran.clocks, u64::from(ran.position)]);
     codes::of_run(ran.answer)
 }
 
@@ -37,11 +38,12 @@ pub fn gate_run(
     memory: &mut [u32],
     bottom: u32,
     waits: &[u16],
+    resets: &[u64],
     words: &mut [u32],
     clocks: u64,
     result: &mut [u64],
 ) -> u32 {
-    let ran = reference::gate_run(memory, bottom, waits, state_of(words), clocks);
+    let ran = reference::gate_run(memory, bottom, waits, resets, state_of(words), clocks);
     words.copy_from_slice(&state_words(&ran.state));
     result[0] = ran.finished;
     codes::of_call(ran.answer)

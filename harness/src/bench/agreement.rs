@@ -1,13 +1,15 @@
 //! Whether all contenders do the same, before anything is measured.
 
+use super::resets::FAR;
 use super::workload::{
-    generated, moves_loop, register_loop, stacking_above_bottom, stacking_loop, stacking_outside,
-    Workload,
+    generated, halting_with_resets, moves_loop, register_loop, reset_on_every_clock,
+    stacking_above_bottom, stacking_loop, stacking_outside, stacking_with_resets, Workload,
 };
 use crate::baseline::{Contender, CONTENDERS};
 use crate::words::{machine_words, state_words};
 use fm8502::library::{MACHINE_SIZE, STATE_SIZE};
-use reference::generate::program::{any_program, Program};
+use reference::generate::program::any_program;
+use reference::generate::resets::resets;
 use reference::generate::state::gate_state;
 use reference::image::image_size;
 use reference::rng::Rng;
@@ -16,26 +18,31 @@ use reference::rng::Rng;
 pub fn check(starts: u64) {
     check_starts(starts);
     check_measured();
+    check_resets();
     for words in [1, 2, 1_023, 1_024, 1_025, 2_048, 5_000] {
         check_images(words);
     }
 }
 
-/// Generated starts.
+/// Generated starts, without resets and with them.
 fn check_starts(starts: u64) {
     for seed in 0..starts {
         let mut rng = Rng::new(seed);
         let program = any_program(&mut rng);
-        let workload = Workload {
+        let mut workload = Workload {
             name: format!("start {seed}"),
             machine: machine_words(&program.start),
             memory: program.memory.clone(),
             bottom: program.bottom,
             waits: program.waits.clone(),
+            resets: Vec::new(),
         };
-        check_runs(&workload, program.count);
+        check_runs(&workload, program.position, program.count);
         check_gates(&workload, workload.state(), rng.below(400) as u64);
-        check_gates(&workload, any_state(&mut rng, &program), 60);
+        let state = gate_state(&mut rng, program.memory.len(), program.waits.len());
+        check_gates(&workload, state_words(&state), 60);
+        workload.resets = resets(&mut rng, &program, state, 60);
+        check_gates(&workload, state_words(&state), 60);
     }
 }
 
@@ -50,14 +57,20 @@ fn check_measured() {
         moves_loop(),
     ];
     for workload in plain.into_iter().flat_map(Workload::with_lists) {
-        check_runs(&workload, 65_536);
+        check_runs(&workload, 0, 65_536);
         check_gates(&workload, workload.state(), 50_000);
     }
 }
 
-fn any_state(rng: &mut Rng, program: &Program) -> [u32; STATE_SIZE] {
-    let state = gate_state(rng, program.memory.len(), program.waits.len());
-    state_words(&state)
+/// The measured programs with resets, fewer of them.
+fn check_resets() {
+    let clocks = 50_000;
+    let workload = stacking_with_resets(clocks);
+    check_gates(&workload, workload.state(), clocks);
+    let workload = halting_with_resets(1_000, FAR);
+    check_gates(&workload, workload.state(), FAR);
+    let workload = reset_on_every_clock(1_000);
+    check_gates(&workload, workload.state(), 1_000);
 }
 
 /// All contenders' outcomes must be the first one's.
@@ -69,30 +82,32 @@ fn all_same<T: PartialEq>(case: &str, outcome: impl Fn(&Contender) -> T) {
     }
 }
 
-fn check_runs(start: &Workload, count: u32) {
+fn check_runs(start: &Workload, position: u32, count: u32) {
+    let (bottom, waits) = (start.bottom, &start.waits);
     all_same(&format!("run, {}", start.name), |contender| {
         let (mut memory, mut machine) = (start.memory.clone(), start.machine);
-        let mut result = [0; 2];
-        let lent = (&mut memory, start.bottom, &start.waits, &mut machine);
-        let code = (contender.run)(lent.0, lent.1, lent.2, lent.3, count, &mut result);
+        let mut result = [0; 3];
+        let lent = (&mut memory, &mut machine, &mut result);
+        let code = (contender.run)(lent.0, bottom, waits, position, lent.1, count, lent.2);
         (code, memory, machine, result)
     });
     all_same(&format!("file run, {}", start.name), |contender| {
         let (mut memory, mut machine) = (start.memory.clone(), start.machine);
         let mut journal = vec![7; 2 * count as usize];
         let mut result = [0; 2];
-        let lent = (&mut memory, start.bottom, &mut journal, &mut machine);
-        let code = (contender.file_run)(lent.0, lent.1, lent.2, lent.3, count, &mut result);
+        let lent = (&mut memory, &mut journal, &mut machine);
+        let code = (contender.file_run)(lent.0, bottom, lent.1, lent.2, count, &mut result);
         (code, memory, journal, machine, result)
     });
 }
 
 fn check_gates(start: &Workload, state: [u32; STATE_SIZE], clocks: u64) {
+    let (bottom, waits, resets) = (start.bottom, &start.waits, &start.resets);
     all_same(&format!("gate run, {}", start.name), |contender| {
         let (mut memory, mut state) = (start.memory.clone(), state);
         let mut result = [0; 1];
-        let lent = (&mut memory, start.bottom, &start.waits, &mut state);
-        let code = (contender.gate_run)(lent.0, lent.1, lent.2, lent.3, clocks, &mut result);
+        let lent = (&mut memory, &mut state, &mut result);
+        let code = (contender.gate_run)(lent.0, bottom, waits, resets, lent.1, clocks, lent.2);
         (code, memory, state, result)
     });
 }

@@ -49,10 +49,10 @@ fn run_words(calls: u64) -> f64 {
         mut machine,
         ..
     } = register_loop();
-    let mut result = [0; 2];
+    let mut result = [0; 3];
     time(calls, || {
         for _ in 0..calls {
-            library::run(&mut memory, 0, &[], &mut machine, 0, &mut result);
+            library::run(&mut memory, 0, &[], 0, &mut machine, 0, &mut result);
         }
     })
 }
@@ -62,7 +62,7 @@ fn run_safe(calls: u64, count: u32) -> f64 {
     let mut machine = start(&workload);
     time(calls, || {
         for _ in 0..calls {
-            fm8502::run(&mut workload.memory, 0, &[], &mut machine, count).expect("accepted");
+            fm8502::run(&mut workload.memory, 0, &[], 0, &mut machine, count).expect("accepted");
         }
     })
 }
@@ -70,9 +70,10 @@ fn run_safe(calls: u64, count: u32) -> f64 {
 fn gate_safe(calls: u64, clocks: u64) -> f64 {
     let mut workload = register_loop();
     let mut state = GateState::start(start(&workload));
+    let memory = &mut workload.memory;
     time(calls, || {
         for _ in 0..calls {
-            fm8502::gate_run(&mut workload.memory, 0, &[], &mut state, clocks).expect("accepted");
+            fm8502::gate_run(memory, 0, &[], &[], &mut state, clocks).expect("accepted");
         }
     })
 }

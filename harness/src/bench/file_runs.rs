@@ -71,12 +71,13 @@ fn file_run(contender: &Contender, workload: &Workload, journal: &mut [u32]) -> 
 /// It stops where the file run is undone, so that both run as many instructions.
 fn plain_run(contender: &Contender, workload: &Workload) -> f64 {
     let (mut memory, mut machine) = (workload.memory.clone(), workload.machine);
-    let mut result = [0; 2];
+    let mut result = [0; 3];
     let all = time(1, || {
         (contender.run)(
             &mut memory,
             workload.bottom,
             &[],
+            0,
             &mut machine,
             COUNT,
             &mut result,

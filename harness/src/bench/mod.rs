@@ -5,6 +5,7 @@ pub mod calls;
 pub mod file_runs;
 pub mod images;
 mod measure;
+pub mod resets;
 pub mod runs;
 mod table;
 pub mod units;
@@ -23,4 +24,6 @@ pub struct Sizes {
     pub words: usize,
     /// Calls of which the overhead is taken.
     pub calls: u64,
+    /// Resets of a gate run.
+    pub resets: u64,
 }

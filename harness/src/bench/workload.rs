@@ -34,6 +34,8 @@ pub struct Workload {
     pub memory: Vec<u32>,
     pub bottom: u32,
     pub waits: Vec<u16>,
+    /// Of a gate run.
+    pub resets: Vec<u64>,
 }
 
 impl Workload {
@@ -46,6 +48,7 @@ impl Workload {
             memory,
             bottom: 0,
             waits: Vec::new(),
+            resets: Vec::new(),
         }
     }
 
@@ -99,6 +102,36 @@ pub fn stacking_above_bottom() -> Workload {
         name: "stacking loop, bottom".into(),
         bottom: FIRST + SAMPLES,
         ..stacking_loop()
+    }
+}
+
+/// The stacking loop in a gate run of so many clocks, reset about every 1,000 clocks, in
+/// one row and another; it goes on from its first word with the registers as they are.
+pub fn stacking_with_resets(clocks: u64) -> Workload {
+    Workload {
+        name: "stacking loop, resets".into(),
+        resets: (1..=clocks / 1_000).map(|i| 1_000 * i - i % 31).collect(),
+        ..stacking_loop()
+    }
+}
+
+/// Halts after one instruction, with resets spread evenly over the clocks of a run.
+pub fn halting_with_resets(resets: u64, clocks: u64) -> Workload {
+    let halting = 1 << 14;
+    let memory = vec![compute(ADD, ALL, Direct(3), Direct(2)), halting];
+    let distance = clocks / resets;
+    Workload {
+        resets: (0..resets).map(|i| i * distance).collect(),
+        ..Workload::new("halts after each", [0, 1, 2, 3, 0, 0, 0, 0], memory)
+    }
+}
+
+/// The register loop, reset on each of its first clocks, so that none of it is done.
+pub fn reset_on_every_clock(resets: u64) -> Workload {
+    Workload {
+        name: "on every clock".into(),
+        resets: (0..resets).collect(),
+        ..register_loop()
     }
 }
 

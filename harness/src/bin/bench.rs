@@ -1,24 +1,25 @@
 //! Prints the proved emulator's speed as tables in Markdown.
 
 use harness::arguments::{numbers, value};
-use harness::bench::{agreement, calls, file_runs, images, runs, Sizes};
+use harness::bench::{agreement, calls, file_runs, images, resets, runs, Sizes};
 
 const HELP: &str = "\
 Usage: bench [--rounds N] [--instructions N] [--clocks N] [--words N] [--calls N]
-             [--starts N]
+             [--resets N] [--starts N]
 
 Checks that the proved emulator, the reference emulator, tuned Rust and C agree
 on generated starts, then measures them in turns; the best of the rounds counts.
 Without numbers: 100 rounds of 100000 instructions, 100000 clocks, 10000 calls, and
-5 of images of 16777216 words; 5000 starts.
+5 of 1000000 resets and of images of 16777216 words; 5000 starts.
 ";
 
-const NAMES: [&str; 6] = [
+const NAMES: [&str; 7] = [
     "--rounds",
     "--instructions",
     "--clocks",
     "--words",
     "--calls",
+    "--resets",
     "--starts",
 ];
 
@@ -30,6 +31,7 @@ fn main() {
         clocks: value(&given, "--clocks", 100_000),
         words: value(&given, "--words", 16_777_216) as usize,
         calls: value(&given, "--calls", 10_000),
+        resets: value(&given, "--resets", 1_000_000).max(1),
     };
     let starts = value(&given, "--starts", 5_000);
     agreement::check(starts);
@@ -40,6 +42,7 @@ fn main() {
         runs::interpreter(sizes),
         files,
         runs::gate_machine(sizes),
+        resets::resets(sizes),
         images::images(sizes),
     ];
     println!("\n## Ratios");

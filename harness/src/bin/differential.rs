@@ -2,8 +2,8 @@
 
 use harness::arguments::{numbers, value};
 use harness::differential::{
-    bottom, directed, gates, halting, images, limits, long, misfits, programs, refusals, sums,
-    vectors, Check,
+    bottom, directed, gates, halting, images, limits, long, misfits, programs, refusals, resets,
+    sums, vectors, Check,
 };
 use reference::rng::Rng;
 use std::process::exit;
@@ -37,6 +37,7 @@ fn main() {
     check_directed(seed);
     check_halting(seed);
     check_bottom(seed);
+    check_resets(seed);
     let vectors = settle(vectors::check(), "outside vectors");
     println!("{vectors} outside vectors agree");
     let sums = settle(
@@ -130,6 +131,14 @@ fn check_bottom(seed: u64) {
         &format!("directed cases of the bottom, --seed {seed}"),
     );
     println!("{cases} directed cases of the bottom agree, seed {seed}: {tally}");
+}
+
+fn check_resets(seed: u64) {
+    let lists = settle(
+        resets::check(&mut Rng::new(seed)),
+        &format!("directed reset lists, --seed {seed}"),
+    );
+    println!("{lists} directed reset lists agree, seed {seed}");
 }
 
 fn check_refusals(seed: u64) {

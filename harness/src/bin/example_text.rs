@@ -17,6 +17,7 @@ fn main() -> std::io::Result<()> {
         outside: image("outside.image")?,
         halted: image("halted.image")?,
         loader: image("loader.image")?,
+        restart: image("restart.image")?,
     };
     print!("{}", text(&images, &waits));
     Ok(())

@@ -76,6 +76,7 @@ fn program((b, r2): (Operand, u32), last: u32, waits: &[u16]) -> Program {
         memory: [words, data].concat(),
         bottom: 0,
         waits: waits.to_vec(),
+        position: 0,
         start: Machine {
             // -50 onto the 50 at the address: the sum sets C and Z.
             registers: [0, u32::MAX - 49, r2, ADDRESS, 0, LENGTH - 1, 0, LENGTH],
@@ -108,7 +109,7 @@ fn check_each_clock(program: &Program) -> Check {
     let state = GateState::start(program.start);
     check_clocks(program, state, CLOCKS as usize)?;
     for clocks in 0..=CLOCKS {
-        check_gate_run(program, &state, clocks)?;
+        check_gate_run(program, &[], &state, clocks)?;
     }
     Ok(())
 }
@@ -117,7 +118,7 @@ fn check_refused(program: &Program) -> Check {
     let state = GateState::start(program.start);
     programs::compare_run(program)?;
     programs::compare_file_run(program, 2 * program.count as usize)?;
-    check_gate_run(program, &state, CLOCKS)?;
+    check_gate_run(program, &[], &state, CLOCKS)?;
     check_clocks(program, state, 1)
 }
 
@@ -128,6 +129,7 @@ fn check_lent_stores(rng: &mut Rng, waits: &[u16]) -> Result<usize, String> {
         memory: (0..LENGTH).map(|_| rng.word()).collect(),
         bottom: 0,
         waits: waits.to_vec(),
+        position: 0,
         start: Machine::default(),
         count: 0,
     };
@@ -155,7 +157,7 @@ fn check_lent_store(rng: &mut Rng, program: &Program, address: u32) -> Result<us
         };
         check_clocks(program, lent, 5)?;
         for clocks in [0, 1, 2, 3, 301, 1 << 16] {
-            check_gate_run(program, &lent, clocks)?;
+            check_gate_run(program, &[], &lent, clocks)?;
         }
     }
     Ok(ACCESSES.len())

@@ -117,6 +117,7 @@ fn one_instruction(instruction: Instruction, registers: [u32; 8], flags: Flags) 
         memory: vec![instruction.encode(), 9, 0, 0],
         bottom: 0,
         waits: Vec::new(),
+        position: 0,
         start: Machine { registers, flags },
         count: 1,
     }

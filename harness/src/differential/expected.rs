@@ -7,13 +7,22 @@ use crate::words::{machine_words, state_words};
 use fm8502::library::MACHINE_SIZE;
 use reference::{image, GateState, Machine};
 
-pub fn run(memory: &[u32], bottom: u32, waits: &[u16], machine: &Machine, count: u32) -> Outcome {
-    let mut outcome = Outcome::as_lent(memory, &machine_words(machine), 2);
-    let result = reference::run(&mut outcome.memory, bottom, waits, *machine, count);
+pub fn run(
+    memory: &[u32],
+    bottom: u32,
+    waits: &[u16],
+    position: u32,
+    machine: &Machine,
+    count: u32,
+) -> Outcome {
+    let mut outcome = Outcome::as_lent(memory, &machine_words(machine), 3);
+    let lent = &mut outcome.memory;
+    let result = reference::run(lent, bottom, waits, position, *machine, count);
     outcome.code = codes::of_run(result.answer);
     if outcome.carried_out() {
         outcome.words = machine_words(&result.machine).to_vec();
-        outcome.result = vec![u64::from(result.ran), result.clocks];
+        let position = u64::from(result.position);
+        outcome.result = vec![u64::from(result.ran), result.clocks, position];
     }
     outcome
 }
@@ -41,11 +50,13 @@ pub fn gate_run(
     memory: &[u32],
     bottom: u32,
     waits: &[u16],
+    resets: &[u64],
     state: &GateState,
     clocks: u64,
 ) -> Outcome {
     let mut outcome = Outcome::as_lent(memory, &state_words(state), 1);
-    let result = reference::gate_run(&mut outcome.memory, bottom, waits, *state, clocks);
+    let lent = &mut outcome.memory;
+    let result = reference::gate_run(lent, bottom, waits, resets, *state, clocks);
     outcome.code = codes::of_call(result.answer);
     if outcome.carried_out() {
         outcome.words = state_words(&result.state).to_vec();

@@ -43,6 +43,7 @@ fn check_bits(rng: &mut Rng, bits: u32, tally: &mut Tally) -> Check {
                 memory,
                 bottom: 0,
                 waits: waits.to_vec(),
+                position: 0,
                 start,
                 count: 0,
             };
@@ -69,11 +70,11 @@ fn check_counts(rng: &mut Rng, program: &mut Program, tally: &mut Tally) -> Chec
 fn check_written(bits: u32) -> Check {
     let mut machine = [0; MACHINE_SIZE];
     machine[8..].fill(9);
-    let mut result = [7; 2];
+    let mut result = [7; 3];
     let memory = &mut [INCREMENT, INCREMENT | bits];
-    let code = library::run(memory, 0, &[], &mut machine, 9, &mut result);
+    let code = library::run(memory, 0, &[2, 0, 9], 2, &mut machine, 9, &mut result);
     let due = [1, 1, 0, 0, 0, 0, 0, 0, 1, 1, 1, 1];
-    if (code, machine, result) == (HALTED, due, [1, 9]) {
+    if (code, machine, result) == (HALTED, due, [1, 18, 0]) {
         return Ok(());
     }
     Err(format!(
@@ -126,6 +127,7 @@ fn check_lent(rng: &mut Rng, bits: u32, waits: &[u16]) -> Check {
         memory: vec![INCREMENT, INCREMENT | bits, 0, 1],
         bottom: 0,
         waits: waits.to_vec(),
+        position: 0,
         start: Machine::default(),
         count: 0,
     };
@@ -142,7 +144,7 @@ fn check_lent(rng: &mut Rng, bits: u32, waits: &[u16]) -> Check {
             ..lent
         };
         check_clocks(&program, latched, CLOCKS)?;
-        check_gate_run(&program, &lent, 40)?;
+        check_gate_run(&program, &[], &lent, 40)?;
     }
     check_long_runs(rng, &program)
 }
@@ -158,7 +160,7 @@ fn check_long_runs(rng: &mut Rng, program: &Program) -> Check {
             ..gate_state(rng, program.memory.len(), program.waits.len())
         };
         for clocks in [0, 1, 2, 300, 301, u64::MAX] {
-            check_gate_run(program, &lent, clocks)?;
+            check_gate_run(program, &[], &lent, clocks)?;
         }
     }
     Ok(())

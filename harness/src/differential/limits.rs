@@ -39,8 +39,8 @@ fn check_longest() -> Check {
     let last = MOST_WORDS as u32 - 1;
     machine.registers[1] = last;
     for bottom in [0, last, last + 1] {
-        let ran = proved::run(&memory, bottom, &[], &machine, 9);
-        let equal = ran == expected::run(&memory, bottom, &[], &machine, 9);
+        let ran = proved::run(&memory, bottom, &[], 0, &machine, 9);
+        let equal = ran == expected::run(&memory, bottom, &[], 0, &machine, 9);
         agree(&format!("run with bottom {bottom}"), equal)?;
     }
     check_longest_image(memory, &machine)
@@ -60,20 +60,22 @@ fn check_longest_image(mut memory: Vec<u32>, machine: &Machine) -> Check {
 /// The four runs, with every later reason to refuse them as well, but for 21 where the
 /// bottom is 0.
 fn check_refused(words: usize, bottom: u32, due: u32) -> Check {
-    let mut memory = vec![0; words];
-    let long_list = [0; 65_537];
+    let memory = &mut vec![0; words][..];
+    let waits = &[0; 65_537][..];
+    let position = waits.len() as u32;
     let (mut machine, mut state) = ([0; MACHINE_SIZE], [13; STATE_SIZE]);
-    let (mut two, mut one) = ([7; 2], [7; 1]);
+    let (mut three, mut two, mut one) = ([7; 3], [7; 2], [7; 1]);
+    let (machine_lent, state_lent) = (&mut machine, &mut state);
     let codes = [
-        library::run(&mut memory, bottom, &long_list, &mut machine, 9, &mut two),
-        library::file_run(&mut memory, bottom, &mut [], &mut machine, 65_537, &mut two),
-        library::gate_run(&mut memory, bottom, &long_list, &mut state, 9, &mut one),
-        library::clock(&mut memory, bottom, &long_list, &mut state, &mut one),
+        library::run(memory, bottom, waits, position, machine_lent, 9, &mut three),
+        library::file_run(memory, bottom, &mut [], machine_lent, 65_537, &mut two),
+        library::gate_run(memory, bottom, waits, &[1, 1], state_lent, 9, &mut one),
+        library::clock(memory, bottom, waits, state_lent, &mut one),
     ];
     let unchanged = memory.iter().all(|&word| word == 0)
         && machine == [0; MACHINE_SIZE]
         && state == [13; STATE_SIZE]
-        && (two, one) == ([7; 2], [7; 1]);
+        && (three, two, one) == ([7; 3], [7; 2], [7; 1]);
     if codes == [due; 4] && unchanged {
         return Ok(());
     }

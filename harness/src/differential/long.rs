@@ -33,7 +33,7 @@ pub fn check(rng: &mut Rng, tally: &mut Tally) -> Check {
         let mut program = crossing_its_list(waits);
         for bottom in AROUND_COUNTER {
             program.bottom = bottom;
-            programs::check_program(rng, &program, tally)?;
+            check_ends(rng, &mut program, tally)?;
         }
     }
     let store = compute(ADD, NONE, Operand::Direct(1), Operand::After(4));
@@ -47,6 +47,15 @@ pub fn check(rng: &mut Rng, tally: &mut Tally) -> Check {
         }
     }
     check_long_total(tally)
+}
+
+/// From the first entry of the list, and from the last.
+fn check_ends(rng: &mut Rng, program: &mut Program, tally: &mut Tally) -> Check {
+    for position in [0, program.waits.len() - 1] {
+        program.position = position as u32;
+        programs::check_program(rng, program, tally)?;
+    }
+    Ok(())
 }
 
 /// A gate run of so many clocks would take too long.
@@ -78,6 +87,7 @@ fn crossing_its_list(waits: Vec<u16>) -> Program {
         ],
         bottom: 0,
         waits,
+        position: 0,
         start,
         count: 2 * turns,
     }
@@ -97,6 +107,7 @@ fn full_journal(rng: &mut Rng, store: u32, last: u32) -> Program {
         memory,
         bottom: 0,
         waits: Vec::new(),
+        position: 0,
         start,
         count: MOST_INSTRUCTIONS,
     }

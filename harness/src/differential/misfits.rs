@@ -4,17 +4,24 @@
 use super::Check;
 use fm8502::library::{self, MACHINE_SIZE, STATE_SIZE};
 
-/// A machine's words and its result's places, of which 2 would fit.
-const MACHINES: [(usize, usize); 8] = [
-    (0, 2),
-    (1, 2),
-    (MACHINE_SIZE - 1, 2),
-    (MACHINE_SIZE + 1, 2),
-    (STATE_SIZE, 2),
-    (MACHINE_SIZE, 0),
+/// A machine's words, and how many places its result has more than would fit.
+const MACHINES: [(usize, isize); 10] = [
+    (0, 0),
+    (1, 0),
+    (MACHINE_SIZE - 1, 0),
+    (MACHINE_SIZE + 1, 0),
+    (STATE_SIZE, 0),
+    (MACHINE_SIZE, -3),
+    (MACHINE_SIZE, -2),
+    (MACHINE_SIZE, -1),
     (MACHINE_SIZE, 1),
-    (MACHINE_SIZE, 3),
+    (MACHINE_SIZE, 2),
 ];
+
+/// The places of a run's result, of a file run's, and of an image's.
+const RUN_PLACES: usize = 3;
+const FILE_PLACES: usize = 2;
+const IMAGE_PLACES: usize = 1;
 
 /// A state's words and its result's places, of which 1 would fit.
 const STATES: [(usize, usize); 6] = [
@@ -26,9 +33,39 @@ const STATES: [(usize, usize); 6] = [
     (STATE_SIZE, 2),
 ];
 
-/// Words of memory, and bottoms: one that fits, and one to refuse if nothing came first.
+/// Words of memory.
 const WORDS: u32 = 4;
-const BOTTOMS: [u32; 2] = [0, WORDS + 1];
+
+/// What a call is lent besides: good, and to refuse if nothing came first.
+#[derive(Clone, Copy)]
+struct Rest {
+    bottom: u32,
+    position: u32,
+    resets: &'static [u64],
+}
+
+const RESTS: [Rest; 4] = [
+    Rest {
+        bottom: 0,
+        position: 0,
+        resets: &[],
+    },
+    Rest {
+        bottom: WORDS + 1,
+        position: 0,
+        resets: &[],
+    },
+    Rest {
+        bottom: 0,
+        position: 1,
+        resets: &[1, 1],
+    },
+    Rest {
+        bottom: WORDS + 1,
+        position: u32::MAX,
+        resets: &[1, 0],
+    },
+];
 
 /// Counts a call, which must be answered so and leave everything lent unchanged.
 fn misfit(calls: &mut usize, call: &str, code: u32, unchanged: bool) -> Check {
@@ -44,70 +81,79 @@ fn misfit(calls: &mut usize, call: &str, code: u32, unchanged: bool) -> Check {
 /// Returns how many calls were made.
 pub fn check() -> Result<usize, String> {
     let mut calls = 0;
-    check_machines(&mut calls)?;
-    check_states(&mut calls)?;
+    for rest in RESTS {
+        check_machines(&mut calls, rest)?;
+        check_states(&mut calls, rest)?;
+    }
     Ok(calls)
 }
 
-fn check_machines(calls: &mut usize) -> Check {
-    for (length, places) in MACHINES {
-        for bottom in BOTTOMS {
-            check_machine(calls, bottom, length, places)?;
-        }
+fn check_machines(calls: &mut usize, rest: Rest) -> Check {
+    for (length, more) in MACHINES {
+        let places = |fitting: usize| fitting.saturating_add_signed(more);
+        check_run(calls, rest, length, places(RUN_PLACES))?;
+        check_file_run(calls, rest, length, places(FILE_PLACES))?;
+        check_images(calls, length, places(IMAGE_PLACES))?;
     }
     Ok(())
 }
 
-fn check_states(calls: &mut usize) -> Check {
+fn check_states(calls: &mut usize, rest: Rest) -> Check {
     for (length, places) in STATES {
-        for bottom in BOTTOMS {
-            check_state(calls, bottom, length, places)?;
-        }
+        check_state(calls, rest, length, places)?;
     }
     Ok(())
 }
 
-/// A machine of `length` words and `places` result places (one less for images).
-fn check_machine(calls: &mut usize, bottom: u32, length: usize, places: usize) -> Check {
+/// A machine of `length` words and `places` result places.
+fn check_run(calls: &mut usize, rest: Rest, length: usize, places: usize) -> Check {
     let mut memory = [7; WORDS as usize];
-    let mut journal = [7; 8];
-    let mut machine = vec![7; length];
-    let mut result = vec![7; places];
-    let lent = (memory, journal, machine.clone(), result.clone());
-    let mut image = [7; 128];
+    let (mut machine, mut result) = (vec![7; length], vec![7; places]);
+    let lent = (memory, machine.clone(), result.clone());
+    let Rest {
+        bottom, position, ..
+    } = rest;
+    let (words, places) = (&mut machine, &mut result);
+    let code = library::run(&mut memory, bottom, &[], position, words, 1, places);
+    misfit(calls, "run", code, (memory, machine, result) == lent)
+}
 
-    let code = library::run(&mut memory, bottom, &[], &mut machine, 1, &mut result);
-    let now = (memory, journal, machine.clone(), result.clone());
-    misfit(calls, "run", code, now == lent)?;
+fn check_file_run(calls: &mut usize, rest: Rest, length: usize, places: usize) -> Check {
+    let (mut memory, mut journal) = ([7; WORDS as usize], [7; 8]);
+    let (mut machine, mut result) = (vec![7; length], vec![7; places]);
+    let lent = (memory, journal, machine.clone(), result.clone());
     let code = library::file_run(
         &mut memory,
-        bottom,
+        rest.bottom,
         &mut journal,
         &mut machine,
         1,
         &mut result,
     );
-    let now = (memory, journal, machine.clone(), result.clone());
-    misfit(calls, "file run", code, now == lent)?;
+    let now = (memory, journal, machine, result);
+    misfit(calls, "file run", code, now == lent)
+}
 
-    result.pop();
-    let lent = (memory, machine.clone(), result.clone());
+fn check_images(calls: &mut usize, length: usize, places: usize) -> Check {
+    let (mut memory, mut image) = ([7; WORDS as usize], [7; 128]);
+    let (mut machine, mut result) = (vec![7; length], vec![7; places]);
+    let lent = (memory, image, machine.clone(), result.clone());
     let code = library::image_write(&memory, &machine, &mut image, &mut result);
-    let now = (memory, machine.clone(), result.clone());
-    misfit(calls, "image write", code, now == lent && image == [7; 128])?;
+    let now = (memory, image, machine.clone(), result.clone());
+    misfit(calls, "image write", code, now == lent)?;
     let code = library::image_read(&image, &mut memory, &mut machine, &mut result);
-    let now = (memory, machine.clone(), result.clone());
+    let now = (memory, image, machine, result);
     misfit(calls, "image read", code, now == lent)
 }
 
 /// A state of `length` words and `places` result places.
-fn check_state(calls: &mut usize, bottom: u32, length: usize, places: usize) -> Check {
+fn check_state(calls: &mut usize, rest: Rest, length: usize, places: usize) -> Check {
     let mut memory = [7; WORDS as usize];
-    let mut state = vec![0; length];
-    let mut result = vec![7; places];
+    let (mut state, mut result) = (vec![0; length], vec![7; places]);
     let lent = (memory, state.clone(), result.clone());
-
-    let code = library::gate_run(&mut memory, bottom, &[], &mut state, 1, &mut result);
+    let Rest { bottom, resets, .. } = rest;
+    let (words, places) = (&mut state, &mut result);
+    let code = library::gate_run(&mut memory, bottom, &[], resets, words, 1, places);
     let now = (memory, state.clone(), result.clone());
     misfit(calls, "gate run", code, now == lent)?;
     let code = library::clock(&mut memory, bottom, &[], &mut state, &mut result);

@@ -15,6 +15,8 @@ mod outcome;
 pub mod programs;
 mod proved;
 pub mod refusals;
+pub mod resets;
+mod restarts;
 pub mod sums;
 pub mod vectors;
 

@@ -1,7 +1,7 @@
 //! Programs: runs, file runs, and gate runs around the clock total.
 
 use super::outcome::Outcome;
-use super::{expected, gates, proved, run_case, same, Check};
+use super::{expected, gates, proved, restarts, run_case, same, Check};
 use fm8502::library::{HALTED, STOPPED};
 use reference::generate::looping::looping_program;
 use reference::generate::program::{any_program, Program};
@@ -18,6 +18,8 @@ pub struct Tally {
     pub journal_pairs: u64,
     /// Programs with a store below their bottom.
     pub below: u64,
+    /// Resets that had an effect.
+    pub resets: u64,
 }
 
 impl fmt::Display for Tally {
@@ -27,7 +29,8 @@ impl fmt::Display for Tally {
             "{} instructions, {} clocks, {} outside, {} halted, {} journal pairs, ",
             self.instructions, self.clocks, self.outside, self.halted, self.journal_pairs
         )?;
-        write!(f, "{} stored below the bottom", self.below)
+        write!(f, "{} stored below the bottom, ", self.below)?;
+        write!(f, "{} resets", self.resets)
     }
 }
 
@@ -43,13 +46,41 @@ pub fn check_looping(rng: &mut Rng, tally: &mut Tally) -> Check {
 
 pub fn check_program(rng: &mut Rng, program: &Program, tally: &mut Tally) -> Check {
     let run = check_run(program, tally)?;
+    check_run_in_parts(rng, program, &run)?;
     check_file_run(rng, program, tally)?;
     let total = run.result[1];
     gates::check_around(rng, program, total)?;
     if run.code == HALTED {
         gates::check_halt(rng, program, total)?;
     }
+    tally.resets += restarts::check(rng, program, total)?;
     Ok(())
+}
+
+/// A run of some instructions, and one of the rest that goes on from its machine, memory
+/// and list position, against one run of all. After the first has stopped the second
+/// stops at once; of no instructions it is finished, so that it has one to run.
+fn check_run_in_parts(rng: &mut Rng, program: &Program, whole: &Outcome) -> Check {
+    let Program {
+        memory,
+        bottom,
+        waits,
+        position,
+        start,
+        count,
+    } = program;
+    let first_count = rng.below((*count).max(1) as usize) as u32;
+    let first = proved::run(memory, *bottom, waits, *position, start, first_count);
+    let between = first.result[2] as u32;
+    let rest = count - first_count;
+    let mut last = proved::run_on(&first.memory, *bottom, waits, between, &first.words, rest);
+    for place in [0, 1] {
+        last.result[place] += first.result[place];
+    }
+    same("run in two parts", &last, whole, || {
+        let far = format_args!("position {position} count {count}, first {first_count}");
+        run_case(memory, *bottom, start, waits, far)
+    })
 }
 
 /// Returns what is expected: the clock total is its second result.
@@ -69,13 +100,15 @@ pub fn compare_run(program: &Program) -> Result<Outcome, String> {
         memory,
         bottom,
         waits,
+        position,
         start,
         count,
     } = program;
-    let proved = proved::run(memory, *bottom, waits, start, *count);
-    let expected = expected::run(memory, *bottom, waits, start, *count);
+    let proved = proved::run(memory, *bottom, waits, *position, start, *count);
+    let expected = expected::run(memory, *bottom, waits, *position, start, *count);
     same("run", &proved, &expected, || {
-        run_case(memory, *bottom, start, waits, format_args!("count {count}"))
+        let far = format_args!("position {position} count {count}");
+        run_case(memory, *bottom, start, waits, far)
     })?;
     Ok(expected)
 }

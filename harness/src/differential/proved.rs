@@ -44,12 +44,39 @@ impl Buffers {
     }
 }
 
-pub fn run(memory: &[u32], bottom: u32, waits: &[u16], machine: &Machine, count: u32) -> Outcome {
-    let mut lent = Buffers::new(memory, &machine_words(machine), 2);
+pub fn run(
+    memory: &[u32],
+    bottom: u32,
+    waits: &[u16],
+    position: u32,
+    machine: &Machine,
+    count: u32,
+) -> Outcome {
+    run_on(
+        memory,
+        bottom,
+        waits,
+        position,
+        &machine_words(machine),
+        count,
+    )
+}
+
+/// The machine is given in its words, so that a run can go on from the last one.
+pub fn run_on(
+    memory: &[u32],
+    bottom: u32,
+    waits: &[u16],
+    position: u32,
+    machine: &[u32],
+    count: u32,
+) -> Outcome {
+    let mut lent = Buffers::new(memory, machine, 3);
     let code = library::run(
         lent.memory.slice(),
         bottom,
         waits,
+        position,
         lent.words.slice(),
         count,
         lent.result.slice(),
@@ -82,10 +109,11 @@ pub fn gate_run(
     memory: &[u32],
     bottom: u32,
     waits: &[u16],
+    resets: &[u64],
     state: &GateState,
     clocks: u64,
 ) -> Outcome {
-    gate_run_on(memory, bottom, waits, &state_words(state), clocks)
+    gate_run_on(memory, bottom, waits, resets, &state_words(state), clocks)
 }
 
 /// The state is given in its words, so that a call can go on from the last one.
@@ -93,6 +121,7 @@ pub fn gate_run_on(
     memory: &[u32],
     bottom: u32,
     waits: &[u16],
+    resets: &[u64],
     state: &[u32],
     clocks: u64,
 ) -> Outcome {
@@ -101,6 +130,7 @@ pub fn gate_run_on(
         lent.memory.slice(),
         bottom,
         waits,
+        resets,
         lent.words.slice(),
         clocks,
         lent.result.slice(),

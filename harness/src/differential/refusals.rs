@@ -23,6 +23,25 @@ const ACCESSES: [(bool, u16); 5] = [
     (false, 1),
 ];
 
+/// Reset lists: none; some that rise; equal neighbours and falling ones, at the front, in
+/// the middle, at the end, and only past the clocks of the runs.
+const RESET_LISTS: [&[u64]; 14] = [
+    &[],
+    &[0],
+    &[u64::MAX],
+    &[0, 1, 49, 50, u64::MAX],
+    &[0, 0],
+    &[1, 0],
+    &[3, 3, 4, 5],
+    &[3, 4, 4, 5],
+    &[3, 4, 5, 5],
+    &[3, 5, 4, 6],
+    &[0, 51, 51],
+    &[0, 52, 51],
+    &[u64::MAX, u64::MAX],
+    &[u64::MAX, u64::MAX - 1],
+];
+
 /// Places in a state's words.
 const FLAGS: Range<usize> = 8..12;
 const ROW: usize = 12;
@@ -41,6 +60,7 @@ pub fn check(rng: &mut Rng) -> Result<usize, String> {
                 memory: memory.to_vec(),
                 bottom,
                 waits: Vec::new(),
+                position: 0,
                 start: good.start,
                 count: 9,
             };
@@ -73,6 +93,7 @@ fn check_lists(rng: &mut Rng, program: &Program, waits: &[u16]) -> Result<usize,
         calls += 1 + check_gate(rng, &program)?;
         calls += check_too_wide(&program)?;
         calls += check_rows(&program)?;
+        calls += check_reset_lists(&program)?;
     }
     for program in [0, 1, 2, 3, 5, 65_535, 65_536, 65_537].map(with_list) {
         calls += check_positions(&program)?;
@@ -88,7 +109,7 @@ fn check_gate(rng: &mut Rng, program: &Program) -> Result<usize, String> {
             0 => gate_state(rng, 16, entries),
             _ => refused_gate_state(rng, 16, entries),
         };
-        check_gate_run(program, &state, rng.pick(&[0, 1, 50]))?;
+        check_gate_run(program, &[], &state, rng.pick(&[0, 1, 50]))?;
     }
     Ok(STATES)
 }
@@ -112,13 +133,31 @@ fn check_rows(program: &Program) -> Result<usize, String> {
 
 /// As a gate run and as the one-clock call; returns that these are two.
 fn check_one_clock(program: &Program, state: &GateState) -> Result<usize, String> {
-    check_gate_run(program, state, 1)?;
+    check_gate_run(program, &[], state, 1)?;
     check_clocks(program, *state, 1)?;
     Ok(2)
 }
 
-/// List positions up to the list's end, at it and past it, in a state that is good
-/// otherwise: row 4 takes an entry.
+/// For a good state and a bad one: 22 comes after 3 and before 4.
+fn check_reset_lists(program: &Program) -> Result<usize, String> {
+    let states = [4, 13].map(|row| GateState {
+        row,
+        ..GateState::default()
+    });
+    let mut calls = 0;
+    for resets in RESET_LISTS {
+        for state in &states {
+            for clocks in [0, 1, 50] {
+                check_gate_run(program, resets, state, clocks)?;
+                calls += 1;
+            }
+        }
+    }
+    Ok(calls)
+}
+
+/// List positions up to the list's end, at it and past it: of a run, and in a state that
+/// is good otherwise, where row 4 takes an entry.
 fn check_positions(program: &Program) -> Result<usize, String> {
     let end = program.waits.len() as u32;
     let last = end.saturating_sub(1);
@@ -133,6 +172,11 @@ fn check_positions(program: &Program) -> Result<usize, String> {
             ..GateState::default()
         };
         calls += check_one_clock(program, &state)?;
+        programs::compare_run(&Program {
+            position,
+            ..program.clone()
+        })?;
+        calls += 1;
     }
     Ok(calls)
 }
@@ -140,6 +184,21 @@ fn check_positions(program: &Program) -> Result<usize, String> {
 /// Words that are no row of 8 bits or no clocks left of 16 bits are refused as a row
 /// above 12 is, and flags that are lent as 9 stay.
 fn check_too_wide(program: &Program) -> Result<usize, String> {
+    // Row, begun, clocks left.
+    let states = [(256, 0, 0), (0, 0, 65_536), (1, 1, 65_536)];
+    let mut calls = 0;
+    for (row, begun, left) in states {
+        let mut words = [0; STATE_SIZE];
+        words[FLAGS].fill(9);
+        (words[ROW], words[BEGUN], words[LEFT]) = (row, begun, left);
+        calls += check_too_wide_words(program, &words)?;
+    }
+    Ok(calls)
+}
+
+/// As gate runs with a reset list that rises and with one that does not, and as the
+/// one-clock call.
+fn check_too_wide_words(program: &Program, words: &[u32]) -> Result<usize, String> {
     let Program {
         memory,
         bottom,
@@ -150,25 +209,21 @@ fn check_too_wide(program: &Program) -> Result<usize, String> {
         row: 255,
         ..GateState::default()
     };
-    let mut expected = expected::gate_run(memory, *bottom, waits, &bad_row, 1);
-    // Row, begun, clocks left.
-    let states = [(256, 0, 0), (0, 0, 65_536), (1, 1, 65_536)];
-    for (row, begun, left) in states {
-        let mut words = [0; STATE_SIZE];
-        words[FLAGS].fill(9);
-        (words[ROW], words[BEGUN], words[LEFT]) = (row, begun, left);
+    let gate_run = |resets: &[u64]| proved::gate_run_on(memory, *bottom, waits, resets, words, 1);
+    let calls = [
+        (&[0][..], gate_run(&[0])),
+        (&[1, 1], gate_run(&[1, 1])),
+        (&[], proved::clock(memory, *bottom, waits, words)),
+    ];
+    for (resets, proved) in &calls {
+        let mut expected = expected::gate_run(memory, *bottom, waits, resets, &bad_row, 1);
         expected.words = words.to_vec();
-        for proved in [
-            proved::gate_run_on(memory, *bottom, waits, &words, 1),
-            proved::clock(memory, *bottom, waits, &words),
-        ] {
-            same("gate run or clock", &proved, &expected, || {
-                let far = format!("{words:?}");
-                run_case(memory, *bottom, &bad_row.machine(), waits, far)
-            })?;
-        }
+        same("gate run or clock", proved, &expected, || {
+            let far = format!("{words:?} resets {resets:?}");
+            run_case(memory, *bottom, &bad_row.machine(), waits, far)
+        })?;
     }
-    Ok(2 * states.len())
+    Ok(calls.len())
 }
 
 fn check_file_run(program: &Program) -> Result<usize, String> {
@@ -196,28 +251,37 @@ fn check_words_kept(long_waits: &[u16]) -> Result<usize, String> {
     let mut calls = 0;
     for memory in memories {
         let length = memory.len() as u32;
-        calls += check_kept(memory, length, long_waits, [3, 6, 6, STOPPED])?;
-        calls += check_kept(memory, length + 1, long_waits, [21; 4])?;
+        calls += check_kept(memory, length, long_waits, [3, 4, 6, 6, STOPPED])?;
+        calls += check_kept(memory, length + 1, long_waits, [21; 5])?;
     }
     Ok(calls)
 }
 
-/// A run, and file runs with two journals that are too short and one that is not.
+/// Runs with a list that is too long and with a position past the list, and file runs
+/// with two journals that are too short and one that is not.
 fn check_kept(
     memory: &mut [u32],
     bottom: u32,
     long_waits: &[u16],
-    due: [u32; 4],
+    due: [u32; 5],
 ) -> Result<usize, String> {
     let mut machine = [0; MACHINE_SIZE];
     machine[FLAGS].fill(9);
     let lent = machine;
-    let result = &mut [0; 2];
-
-    let run = library::run(memory, bottom, long_waits, &mut machine, 9, result);
-    let mut codes = vec![run];
+    let mut run = |waits: &[u16], position| {
+        library::run(
+            memory,
+            bottom,
+            waits,
+            position,
+            &mut machine,
+            9,
+            &mut [0; 3],
+        )
+    };
+    let mut codes = vec![run(long_waits, 0), run(&[2, 1], 2)];
     for places in [0, 17, 18] {
-        let journal = &mut vec![0; places];
+        let (journal, result) = (&mut vec![0; places], &mut [0; 2]);
         let code = library::file_run(memory, bottom, journal, &mut machine, 9, result);
         codes.push(code);
     }

@@ -31,10 +31,10 @@ pub fn check(rng: &mut Rng) -> Result<usize, String> {
 fn check_use(case: &Use) -> Check {
     let (memory, start) = alone(case.operation, case.a, case.b, case.carry);
     for bottom in BOTTOMS {
-        let run = proved::run(&memory, bottom, &[], &start, 1);
+        let run = proved::run(&memory, bottom, &[], 0, &start, 1);
         check_meaning("run", case, bottom, &run)?;
         let state = GateState::start(start);
-        let gate_run = proved::gate_run(&memory, bottom, &[], &state, CLOCKS);
+        let gate_run = proved::gate_run(&memory, bottom, &[], &[], &state, CLOCKS);
         check_meaning("gate run", case, bottom, &gate_run)?;
     }
     Ok(())

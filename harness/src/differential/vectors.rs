@@ -37,11 +37,11 @@ fn check_vector(vector: &Vector, bottom: u32) -> Check {
         )
     };
 
-    let mut expected = Outcome::as_lent(&memory, &machine_words(&end), 2);
-    expected.result = vec![1, CLOCKS];
+    let mut expected = Outcome::as_lent(&memory, &machine_words(&end), 3);
+    expected.result = vec![1, CLOCKS, 0];
     same(
         "run",
-        &proved::run(&memory, bottom, &[], &start, 1),
+        &proved::run(&memory, bottom, &[], 0, &start, 1),
         &expected,
         case,
     )?;
@@ -51,7 +51,8 @@ fn check_vector(vector: &Vector, bottom: u32) -> Check {
     let proved = proved::file_run(&memory, bottom, 2, &start, 1);
     same("file run", &proved, &expected, case)?;
 
-    let mut proved = proved::gate_run(&memory, bottom, &[], &GateState::start(start), CLOCKS);
+    let state = GateState::start(start);
+    let mut proved = proved::gate_run(&memory, bottom, &[], &[], &state, CLOCKS);
     proved.words.truncate(expected.words.len());
     expected.result = vec![1];
     expected.journal.clear();

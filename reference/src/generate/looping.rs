@@ -2,6 +2,7 @@
 
 use super::flags;
 use super::halting::halting_bits;
+use super::position::position;
 use super::program::{data_word, tame_word, waits, Program};
 use crate::instruction::{Instruction, Operand};
 use crate::machine::{Flags, Machine};
@@ -20,10 +21,12 @@ pub fn looping_program(rng: &mut Rng) -> Program {
     // From 0 it would take 2^32 turns.
     let counter = if rng.one_in(4) { turns } else { 0 };
     let memory = memory(rng, body, counter);
+    let waits = waits(rng, count as usize);
     Program {
         bottom: bottom(rng, code_length(body), memory.len()),
         memory,
-        waits: waits(rng, count as usize),
+        position: position(rng, waits.len()),
+        waits,
         start: Machine {
             registers: [0, rng.word(), rng.word(), rng.word(), 0, 0, 0, 0],
             flags: flags(rng),

@@ -1,8 +1,10 @@
-//! Programs with their memory, bottom, wait list, start and count.
+//! Programs with their memory, bottom, wait list, list position, start and count.
 
 use super::bottom::bottom;
 use super::flags;
 use super::halting::halting_bits;
+use super::position::position;
+use crate::gates::GateState;
 use crate::instruction::{Instruction, Operand, HALTING_BITS};
 use crate::interpreter::step;
 use crate::machine::Machine;
@@ -18,6 +20,8 @@ pub struct Program {
     /// No word below it changes (CR 6).
     pub bottom: u32,
     pub waits: Vec<u16>,
+    /// Which entry of the wait list the first access takes (CR 7).
+    pub position: u32,
     pub start: Machine,
     pub count: u32,
 }
@@ -29,6 +33,19 @@ impl Program {
         let steps =
             (0..self.count).map_while(|_| step(&mut memory, self.bottom, &mut machine).ok());
         steps.filter(|step| step.below_bottom).count()
+    }
+
+    /// The gate machine between instructions, where the run starts, with these latches.
+    pub fn gate_start(&self, latches: GateState) -> GateState {
+        GateState {
+            registers: self.start.registers,
+            flags: self.start.flags,
+            row: 0,
+            position: self.position,
+            begun: false,
+            left: 0,
+            ..latches
+        }
     }
 }
 
@@ -83,6 +100,7 @@ pub fn program(rng: &mut Rng, kind: Kind) -> Program {
     Program {
         memory,
         bottom: bottom(rng, length, &start.registers),
+        position: position(rng, waits.len()),
         waits,
         start,
         count,

@@ -1,6 +1,7 @@
 //! Gate states a host may lend, good and bad.
 
 use super::flags;
+use super::position::{position, refused_position};
 use crate::gates::{GateState, HALTED_ROW};
 use crate::rng::Rng;
 
@@ -14,12 +15,6 @@ pub fn gate_state(rng: &mut Rng, words: usize, entries: usize) -> GateState {
         0 => rng.between(1, usize::from(u16::MAX)) as u16,
         _ => rng.between(1, 5) as u16,
     };
-    // An empty list has position 0, as a list of one entry has.
-    let positions = entries.max(1);
-    let position = match rng.below(4) {
-        0 => positions - 1,
-        _ => rng.below(positions),
-    };
     GateState {
         registers: [(); 8].map(|()| latch(rng, words)),
         flags: flags(rng),
@@ -29,7 +24,7 @@ pub fn gate_state(rng: &mut Rng, words: usize, entries: usize) -> GateState {
         a: latch(rng, words),
         b: latch(rng, words),
         result: latch(rng, words),
-        position: position as u32,
+        position: position(rng, entries),
         begun,
         left,
     }
@@ -40,7 +35,7 @@ pub fn refused_gate_state(rng: &mut Rng, words: usize, entries: usize) -> GateSt
     let mut state = gate_state(rng, words, entries);
     match rng.below(5) {
         0 => state.row = row_past(rng),
-        1 => state.position = position_past(rng, entries),
+        1 => state.position = refused_position(rng, entries),
         2 => {
             state.row = rng.pick(&[0, 2, 3, 5, 7, 8, 10, 11, HALTED_ROW]);
             state.begun = true;
@@ -66,17 +61,6 @@ fn row_past(rng: &mut Rng) -> u8 {
         first
     } else {
         rng.between(first.into(), u8::MAX.into()) as u8
-    }
-}
-
-/// At the list's end or past it; 0 fits an empty list, so 1 is the first past that.
-fn position_past(rng: &mut Rng, entries: usize) -> u32 {
-    let first = entries.max(1);
-    match rng.below(4) {
-        0 => u32::MAX,
-        1 => rng.between(first, first + 9) as u32,
-        2 => rng.between(first, u32::MAX as usize) as u32,
-        _ => first as u32,
     }
 }
 

@@ -42,6 +42,19 @@ pub fn machine(registers: &[(usize, u32)], digits: &str) -> Machine {
     machine
 }
 
+/// What a reset clock makes of a state (CR 7): r0 and the row are 0 and no access has
+/// begun; everything else stays.
+pub fn cut(state: &GateState) -> GateState {
+    let [_, r1, r2, r3, r4, r5, r6, r7] = state.registers;
+    GateState {
+        registers: [0, r1, r2, r3, r4, r5, r6, r7],
+        row: 0,
+        begun: false,
+        left: 0,
+        ..*state
+    }
+}
+
 /// A run of the first n instructions and the memory it leaves.
 struct Prefix {
     result: RunResult,
@@ -64,6 +77,7 @@ fn prefix(program: &Program, count: u32) -> Prefix {
         &mut memory,
         program.bottom,
         &program.waits,
+        program.position,
         program.start,
         count,
     );
@@ -77,7 +91,7 @@ pub fn check_agreement(program: &Program, latches: GateState, extra: u64) {
     let prefixes: Vec<Prefix> = (0..=program.count).map(|n| prefix(program, n)).collect();
     let last = prefixes[prefixes.len() - 1].result;
     let mut memory = program.memory.clone();
-    let mut state = gate_start(program.start, latches);
+    let mut state = program.gate_start(latches);
     let mut finished = 0;
     for k in 0..=last.clocks + extra {
         for prefix in &prefixes {
@@ -98,8 +112,15 @@ pub fn check_agreement(program: &Program, latches: GateState, extra: u64) {
 /// tried. Halted, it has all that the interpreter left and the word that halts.
 fn check_never_more(program: &Program, latches: GateState, last: &Prefix, stop: Stop) {
     let mut memory = program.memory.clone();
-    let state = gate_start(program.start, latches);
-    let result = gate_run(&mut memory, program.bottom, &program.waits, state, u64::MAX);
+    let state = program.gate_start(latches);
+    let result = gate_run(
+        &mut memory,
+        program.bottom,
+        &program.waits,
+        &[],
+        state,
+        u64::MAX,
+    );
     assert_eq!(result.answer, Ok(()));
     assert_eq!(result.finished, u64::from(last.result.ran), "{program:X?}");
     assert_eq!(memory, last.memory, "{program:X?}");
@@ -112,17 +133,4 @@ fn check_never_more(program: &Program, latches: GateState, last: &Prefix, stop: 
     assert_eq!((state.row, state.address), (12, r0), "{program:X?}");
     assert_eq!(state.machine(), last.result.machine, "{program:X?}");
     assert_eq!(state.instruction, memory[r0 as usize], "{program:X?}");
-}
-
-/// A start of demand 3: any latches, but row 0, position 0 and no access begun.
-pub fn gate_start(machine: Machine, latches: GateState) -> GateState {
-    GateState {
-        registers: machine.registers,
-        flags: machine.flags,
-        row: 0,
-        position: 0,
-        begun: false,
-        left: 0,
-        ..latches
-    }
 }

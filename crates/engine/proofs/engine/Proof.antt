@@ -6,33 +6,37 @@ use borrow.Author.Needs.{needs}
 use Rattle.model.specs.Waits.{waitAt}
 use Rattle.model.specs.Board.{boardWith}
 use Rattle.model.specs.Packed.{packedMachine}
+use Rattle.engine.proofs.Spending.{begin-fits}
 use Rattle.engine.proofs.Turns.{At, begins, from-start, clocks-fit, turn, stopped, finished}
 use Rattle.engine.proofs.engine.Statement.{statement}
 use Rattle.engine.proofs.engine.Tie as tie
 
 abbrev Inv-loop : tie.InvT-loop
-Inv-loop memory₀ bottom waits journal₀ count regs₀ flags₀ position₀ clocks₀ pairs₀ i₀ memory journal regs flags position clocks pairs i =
-    At memory₀ (boardWith bottom waits) journal₀ (packedMachine regs₀ flags₀) count memory journal regs flags position clocks pairs i
+Inv-loop memory₀ bottom waits from journal₀ count regs₀ flags₀ position₀ clocks₀ pairs₀ i₀ memory journal regs flags position clocks pairs i =
+    At memory₀ (boardWith bottom waits) position₀ journal₀ (packedMachine regs₀ flags₀) count memory journal regs flags position clocks pairs i
 
 abbrev μ-loop : tie.MeasureT-loop
-μ-loop memory₀ bottom waits journal₀ count regs₀ flags₀ position₀ clocks₀ pairs₀ i₀ memory journal regs flags position clocks pairs i = count - i
+μ-loop memory₀ bottom waits from journal₀ count regs₀ flags₀ position₀ clocks₀ pairs₀ i₀ memory journal regs flags position clocks pairs i = count - i
 
 -- the count has 32 bits
-few-at : (t : tie.In-loop Inv-loop μ-loop) → t .before .before .before .before .before .before .before .before .args .count < 2 ^ 32
-few-at t = omega (arith, t .before .before .before .before .before .before .before .before .fits .count)
+few-at : (t : tie.In-loop Inv-loop μ-loop) → t .before .before .before .before .before .before .before .before .before .args .count < 2 ^ 32
+few-at t = omega (arith, t .before .before .before .before .before .before .before .before .before .fits .count)
 
 -- the clocks of the runs so far leave room for one more
 fits-at : (t : tie.In-loop Inv-loop μ-loop) → t .before .loop .clocks < 2 ^ 61
 unfolding waitAt
 fits-at t =
     clocks-fit (t .before .loop .inv) (t .loop-test .taken)
-    (λ p. omega (arith, t .before .before .before .before .before .before .shared-slice-known .given p)) (few-at t)
+    (λ p. omega (arith, t .before .before .before .before .before .before .before .shared-slice-known .given p)) (few-at t)
 
 packed-requires : tie.Need-packed-requires Inv-loop μ-loop
 packed-requires c κs = search needs
 
+begins-at-requires : tie.Need-begins-at-requires Inv-loop μ-loop
+begins-at-requires c κs = search needs
+
 loop-holds : tie.Need-loop-holds Inv-loop μ-loop
-loop-holds c = begins
+loop-holds c = begins (begin-fits _ _ (c .begins-at .ensures))
 
 step-requires : tie.Need-step-requires Inv-loop μ-loop
 step-requires c κs = search needs
@@ -57,7 +61,7 @@ returns : tie.Need-returns Inv-loop μ-loop
 returns c =
     let stepped = c .before .before .before .before .before .before .before in
     let entered = stepped .before .before .before .before in
-    from-start (entered .before .before .packed .ensures)
+    from-start (entered .before .before .before .packed .ensures) (entered .before .before .begins-at .ensures)
     (stopped (entered .before .loop .inv) (entered .loop-test .taken) (stepped .step .ensures)
     (sym (c .before .before .goes-on .ensures) ∙ not-true _ (c .before .if1 .taken)) (c .run-end .ensures))
 
@@ -91,7 +95,7 @@ same-length-4 c = omega (arith, c .before .before .loop .inv .places)
 returns-2 : tie.Need-returns-2 Inv-loop μ-loop
 returns-2 c =
     let l = c .before .before in
-    from-start (l .before .packed .ensures) (finished (l .loop .inv) (c .before .loop-test .left) (c .run-end2 .ensures))
+    from-start (l .before .before .packed .ensures) (l .before .begins-at .ensures) (finished (l .loop .inv) (c .before .loop-test .left) (c .run-end2 .ensures))
 
 pub engine-spec : {M : Type 1} → statement M
 engine-spec =
@@ -100,6 +104,7 @@ engine-spec =
     Inv-loop
     μ-loop
     packed-requires
+    begins-at-requires
     loop-holds
     step-requires
     goes-on-requires

@@ -13,8 +13,8 @@ enum-known-why c = search needs
 enum-told : tie.Need-enum-told
 enum-told c = search needs
 
-run-clocks-requires : tie.Need-run-clocks-requires
-run-clocks-requires c κs = sym (c .before .before .before .gate-verdict .ensures) ∙ c .before .enum-told .given .1
+run-resets-requires : tie.Need-run-resets-requires
+run-resets-requires c κs = sym (c .before .before .before .gate-verdict .ensures) ∙ c .before .enum-told .given .1
 
 same-length : tie.Need-same-length
 same-length c = search needs
@@ -28,7 +28,7 @@ same-length-2 c = search needs
 returns-2 : tie.Need-returns-2
 returns-2 c =
     let told = c .before .before .before .before .before in
-    run-carried (told .before .before .gate-verdict .ensures) (told .enum-told .given .1) (c .before .before .before .run-clocks .ensures)
+    run-carried (told .before .before .gate-verdict .ensures) (told .enum-told .given .1) (c .before .before .before .run-resets .ensures)
 
 pub run-spec : {M : Type 1} → statement M
 run-spec =
@@ -37,7 +37,7 @@ run-spec =
     gate-verdict-requires
     enum-known-why
     enum-told
-    run-clocks-requires
+    run-resets-requires
     same-length
     returns
     same-length-2

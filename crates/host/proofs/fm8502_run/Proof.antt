@@ -10,7 +10,7 @@ same-length : tie.Need-same-length
 same-length c = search needs
 
 returns : tie.Need-returns
-returns c = run-misfit _ _ _ _ _ _ _ (c .before .before .machine-lent .ensures) (c .if1 .taken)
+returns c = run-misfit _ _ _ _ _ _ _ _ (c .before .before .machine-lent .ensures) (c .if1 .taken)
 
 run-requires : tie.Need-run-requires
 run-requires c κs = search needs
@@ -32,7 +32,7 @@ returns-2 c =
     let ended = c .before .before .before .before in
     let called = ended .before .before .before .before .before in
     let tested = called .before .before in
-    run-formed _ _ _ _ _ _ _ (tested .before .before .machine-lent .ensures) (tested .if1 .left) _ _ (called .run .ensures) _ _ _ (ended .end-run .ensures)
+    run-formed _ _ _ _ _ _ _ _ (tested .before .before .machine-lent .ensures) (tested .if1 .left) _ _ (called .run .ensures) _ _ _ (ended .end-run .ensures)
 
 pub fm8502-run-spec : {M : Type 1} → statement M
 fm8502-run-spec =

@@ -9,11 +9,14 @@ run-code-requires c κs = search needs
 put-machine-requires : tie.Need-put-machine-requires
 put-machine-requires c κs = search needs
 
-cast-put-two : tie.Need-cast-put-two
-cast-put-two c = search needs
+cast-put-three : tie.Need-cast-put-three
+cast-put-three c = search needs
 
-put-two-requires : tie.Need-put-two-requires
-put-two-requires c κs = search needs
+cast-put-three-2 : tie.Need-cast-put-three-2
+cast-put-three-2 c = search needs
+
+put-three-requires : tie.Need-put-three-requires
+put-three-requires c κs = search needs
 
 same-length : tie.Need-same-length
 same-length c = search needs
@@ -23,8 +26,8 @@ same-length-2 c = search needs
 
 returns : tie.Need-returns
 returns c =
-    let put = c .before .before .before .before .before .before .before in
-    run-written (put .before .before .before .before .before .before .args .r) _ (put .before .before .before .run-code .ensures) _ _ (put .before .before .if1 .taken) _ _ (put .put-machine .ensures) (c .before .before .put-two .ensures)
+    let put = c .before .before .before .before .before .before .before .before in
+    run-written (put .before .before .before .before .before .before .args .r) _ (put .before .before .before .run-code .ensures) _ _ (put .before .before .if1 .taken) _ _ (put .put-machine .ensures) (c .before .before .put-three .ensures)
 
 returns-2 : tie.Need-returns-2
 returns-2 c = run-unwritten (c .before .before .before .before .args .r) _ (c .before .run-code .ensures) _ _ (c .if1 .left)
@@ -35,8 +38,9 @@ end-run-spec =
     (tie.spec
     run-code-requires
     put-machine-requires
-    cast-put-two
-    put-two-requires
+    cast-put-three
+    cast-put-three-2
+    put-three-requires
     same-length
     same-length-2
     returns

@@ -1,5 +1,6 @@
+use native.Mathlib.Omega.{arith}
 use borrow.Author.Needs.{needs}
-use Rattle.interpreter.proofs.Answers.{run-refused, run-carried}
+use Rattle.interpreter.proofs.Answers.{run-refused, position-fits, run-carried}
 use Rattle.interpreter.proofs.run.Statement.{statement}
 use Rattle.interpreter.proofs.run.Tie as tie
 
@@ -18,6 +19,12 @@ slice-aggregate-engine c = search needs
 engine-requires : tie.Need-engine-requires
 engine-requires c κs = search needs
 
+cast-after : tie.Need-cast-after
+cast-after c =
+    let ran = c .before .before .before .before .before in
+    let told = ran .before .before .before in
+    omega (arith, position-fits _ (told .before .before .run-verdict .ensures) (told .enum-told .given .1) (ran .engine .ensures))
+
 run-answer-requires : tie.Need-run-answer-requires
 run-answer-requires c κs = search needs
 
@@ -25,16 +32,16 @@ same-length : tie.Need-same-length
 same-length c = search needs
 
 returns : tie.Need-returns
-returns c = run-refused (c .before .before .before .run-verdict .ensures) (c .before .why .given .1)
+returns c = run-refused _ (c .before .before .before .run-verdict .ensures) (c .before .why .given .1)
 
 same-length-2 : tie.Need-same-length-2
 same-length-2 c = search needs
 
 returns-2 : tie.Need-returns-2
 returns-2 c =
-    let told = c .before .before .before .before .before .before .before .before in
-    run-carried (told .before .before .run-verdict .ensures) (told .enum-told .given .1) (c .before .before .before .before .before .engine .ensures)
-    (c .run-answer .ensures)
+    let ran = c .before .before .before .before .before .before in
+    let told = ran .before .before .before in
+    run-carried _ (told .before .before .run-verdict .ensures) (told .enum-told .given .1) (ran .engine .ensures) (c .run-answer .ensures)
 
 pub run-spec : {M : Type 1} → statement M
 run-spec =
@@ -45,6 +52,7 @@ run-spec =
     enum-told
     slice-aggregate-engine
     engine-requires
+    cast-after
     run-answer-requires
     same-length
     returns

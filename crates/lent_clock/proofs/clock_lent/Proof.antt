@@ -138,7 +138,7 @@ module _ {M : Type 1} (𝓤 : URA M) (H : Heap 𝓤) (A : Atoms 𝓤) (W : Given
 
   -- what `clock` ensures of its result and of the memory's last list
   abbrev Said : GateResult → List ℕ → Type 0
-  Said r zs = GateRuns (m .now) (boardWith n (w .now)) h 1 zs r
+  Said r zs = GateRuns (m .now) (boardWith n (w .now)) [] h 1 zs r
 
   -- what is held at the end
   abbrev held : GateResult → List ℕ → List (Item 𝓤)

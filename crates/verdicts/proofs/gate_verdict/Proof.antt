@@ -12,6 +12,9 @@ bottom-fits-requires c κs = search needs
 waits-fit-requires : tie.Need-waits-fit-requires
 waits-fit-requires c κs = search needs
 
+resets-fit-requires : tie.Need-resets-fit-requires
+resets-fit-requires c κs = search needs
+
 state-fits-requires : tie.Need-state-fits-requires
 state-fits-requires c κs = search needs
 
@@ -24,6 +27,9 @@ then-requires-2 c κs = search needs
 then-requires-3 : tie.Need-then-requires-3
 then-requires-3 c κs = search needs
 
+then-requires-4 : tie.Need-then-requires-4
+then-requires-4 c κs = search needs
+
 returns : tie.Need-returns
 unfolding gateVerdict
 returns c = cc
@@ -35,8 +41,10 @@ gate-verdict-spec =
     memory-fits-requires
     bottom-fits-requires
     waits-fit-requires
+    resets-fit-requires
     state-fits-requires
     then-requires
     then-requires-2
     then-requires-3
+    then-requires-4
     returns)

@@ -12,11 +12,17 @@ bottom-fits-requires c κs = search needs
 waits-fit-requires : tie.Need-waits-fit-requires
 waits-fit-requires c κs = search needs
 
+start-fits-requires : tie.Need-start-fits-requires
+start-fits-requires c κs = search needs
+
 then-requires : tie.Need-then-requires
 then-requires c κs = search needs
 
 then-requires-2 : tie.Need-then-requires-2
 then-requires-2 c κs = search needs
+
+then-requires-3 : tie.Need-then-requires-3
+then-requires-3 c κs = search needs
 
 returns : tie.Need-returns
 unfolding runVerdict
@@ -29,6 +35,8 @@ run-verdict-spec =
     memory-fits-requires
     bottom-fits-requires
     waits-fit-requires
+    start-fits-requires
     then-requires
     then-requires-2
+    then-requires-3
     returns)

@@ -1,11 +1,14 @@
 use Prim.Native.Nat.{_+_, _-_, _^_, _≤_, _<_}
 use mathlib.Core.Path.{_≡_, refl, _∙_}
+use mathlib.Core.List.{[]}
 use native.Mathlib.Omega.{arith}
 use lib.ListN.{length}
 use borrow.Author.Needs.{needs}
 use Rattle.arithmetic.proofs.Bits.{bit-le}
+use Rattle.model.specs.declared.Verdict.the-variants.{Accepted}
 use Rattle.model.specs.Board.{boardWith}
 use Rattle.model.specs.GateMachine.{gate, gateRun}
+use Rattle.model.specs.Refusals.{gateVerdict}
 use Rattle.model.specs.Agreement.{gateFrom}
 use Rattle.model.proofs.Valid.{short, row-there}
 use Rattle.step_table.proofs.Table.{step-there}
@@ -15,28 +18,30 @@ use Rattle.gate_machine.proofs.machine.run_clocks.Statement.{statement}
 use Rattle.gate_machine.proofs.machine.run_clocks.Tie as tie
 
 abbrev Inv-loop : tie.InvT-loop
-Inv-loop memory₀ bottom waits clocks table regs₀ s₀ finished₀ i₀ memory regs s finished i =
-    (i ≤ clocks) × (length memory ≡ length memory₀) × (gate (stateOf regs s) memory finished ≡ gateRun (boardWith bottom waits) i (gateFrom (stateOf regs₀ s₀) memory₀))
+Inv-loop regs₀ memory₀ bottom waits clocks table s₀ finished₀ i₀ regs memory s finished i =
+    (i ≤ clocks) × (length memory ≡ length memory₀) × (gate (stateOf regs s) memory finished ≡ gateRun (boardWith bottom waits) [] i (gateFrom (stateOf regs₀ s₀) memory₀))
 
 abbrev μ-loop : tie.MeasureT-loop
-μ-loop memory₀ bottom waits clocks table regs₀ s₀ finished₀ i₀ memory regs s finished i = clocks - i
+μ-loop regs₀ memory₀ bottom waits clocks table s₀ finished₀ i₀ regs memory s finished i = clocks - i
+
+-- the state is accepted
+accepted-at : (a : tie.After-each-latch Inv-loop μ-loop) → let start = a .before .before .before .before in
+    gateVerdict (start .args .memory .now) (boardWith (start .args .bottom) (start .args .waits .now)) [] (stateOf (start .args .regs .now) (a .each-latch .result)) ≡ Accepted
+accepted-at a = rw (a .each-latch .ensures) (a .before .before .before .before .pre)
 
 -- the row that the loop has come to is one of the table
 row-at : (l : tie.At-loop Inv-loop μ-loop) → l .loop .s .row < 13
-row-at l =
-    let start = l .before .before .before .before .before .before in
-    row-there _ _ (stateOf (start .args .start .regs) (l .before .latches-of .result)) (rw (l .before .latches-of .ensures) (start .pre)) _
-    (l .loop .inv .2)
+row-at l = row-there _ _ [] _ (accepted-at (l .before)) _ (l .loop .inv .2)
 
 -- no clock finishes more than one instruction, so that the count has room for one more
 room-at : (t : tie.In-loop Inv-loop μ-loop) → t .before .loop .finished + 1 < 2 ^ 64
-room-at t = omega (arith, finished-le _ _ _ _ (t .before .loop .inv .2), t .before .before .before .before .before .before .before .fits .clocks)
+room-at t = omega (arith, finished-le _ _ _ _ (t .before .loop .inv .2), t .before .before .before .before .before .before .fits .clocks)
 
 steps-requires : tie.Need-steps-requires Inv-loop μ-loop
 steps-requires c κs = search needs
 
-latches-of-requires : tie.Need-latches-of-requires Inv-loop μ-loop
-latches-of-requires c κs = search needs
+each-latch-requires : tie.Need-each-latch-requires Inv-loop μ-loop
+each-latch-requires c κs = search needs
 
 loop-holds : tie.Need-loop-holds Inv-loop μ-loop
 unfolding gateRun
@@ -54,8 +59,7 @@ array-copy-out-step c = omega (arith, row-at (c .before .before))
 tick-requires : tie.Need-tick-requires Inv-loop μ-loop
 tick-requires c κs =
     let l = c .before .before .before .before .before in
-    let start = l .before .before .before .before .before .before in
-    (step-there (l .before .before .before .steps .ensures) refl (row-at l) _, short _ _ (start .args .start) (start .pre))
+    (step-there (l .before .before .steps .ensures) refl (row-at l) _, short _ _ [] _ (accepted-at (l .before)))
 
 cast-finished : tie.Need-cast-finished Inv-loop μ-loop
 cast-finished c = tt
@@ -82,16 +86,13 @@ loop-again c =
           (c .clocks-done .ensures),
     )
 
-state-of-requires : tie.Need-state-of-requires Inv-loop μ-loop
-state-of-requires c κs = search needs
-
 same-length : tie.Need-same-length Inv-loop μ-loop
-same-length c = c .before .before .loop .inv .1
+same-length c = c .before .loop .inv .1
 
 returns : tie.Need-returns Inv-loop μ-loop
 returns c =
-    let l = c .before .before in
-    run-ends _ _ _ _ (l .loop .inv .2) (l .loop .inv .0) (c .before .loop-test .left) (l .before .latches-of .ensures) (c .state-of .ensures)
+    let l = c .before in
+    rw (← l .before .each-latch .ensures) (run-ends _ _ _ _ (l .loop .inv .2) (l .loop .inv .0) (c .loop-test .left))
 
 pub run-clocks-spec : {M : Type 1} → statement M
 run-clocks-spec =
@@ -100,7 +101,7 @@ run-clocks-spec =
     Inv-loop
     μ-loop
     steps-requires
-    latches-of-requires
+    each-latch-requires
     loop-holds
     cast-step
     mul-step
@@ -111,6 +112,5 @@ run-clocks-spec =
     clocks-done-requires
     loop-less
     loop-again
-    state-of-requires
     same-length
     returns)

@@ -1,6 +1,7 @@
+use mathlib.Core.Path.{refl}
 use borrow.Author.Needs.{needs}
-use Rattle.model.proofs.Stores.{all-set}
-use Rattle.host_words.proofs.Laid.{laid-over, laid-nowhere}
+use Rattle.host_words.proofs.Laid.{laid-nowhere}
+use Rattle.host_ends.proofs.Placed.{placed}
 use Rattle.host_ends.proofs.places.put_two.Statement.{statement}
 use Rattle.host_ends.proofs.places.put_two.Tie as tie
 
@@ -14,7 +15,7 @@ same-length : tie.Need-same-length
 same-length c = search needs
 
 returns : tie.Need-returns
-returns c = laid-over _ _ (c .before .args .result .now) (c .if1 .taken) _ (all-set (c .before .args .result .now) _ (c .if1 .taken))
+returns c = placed _ _ (c .before .args .result .now) (c .if1 .taken) refl
 
 returns-2 : tie.Need-returns-2
 returns-2 c = laid-nowhere _ _ _ (c .if1 .left)
