@@ -9,9 +9,11 @@
  *
  * Every call ends, returns a code, and touches nothing but the arrays it is lent.
  * It looks at its arguments in this order: the machine's, state's and result's
- * lengths (FM8502_MISFIT), then the reasons to refuse, lowest number first except
- * that 21 comes directly after 2 and 22 directly after 3, and that an image's fields
- * are taken one by one. After a refusal or a misfit everything lent is as it was.
+ * lengths, and whether the places of files come to whole files (FM8502_MISFIT); then
+ * the reasons to refuse, lowest number first except that 21 comes directly after 2,
+ * 22 directly after 3 and in a traverse 11 last, after 16, 17 and 18, and that an
+ * image's fields are taken one by one. After a refusal or a misfit everything lent is
+ * as it was.
  *
  * A null pointer with length 0 is fine for an empty array. Undefined are:
  * - a length larger than the array that is lent;
@@ -33,9 +35,11 @@ extern "C" {
 enum {
     FM8502_MOST_WORDS = 16777216,     /* the longest memory */
     FM8502_MOST_WAITS = 65536,        /* the longest wait list */
-    FM8502_MOST_INSTRUCTIONS = 65536, /* the longest file run */
+    FM8502_MOST_INSTRUCTIONS = 65536, /* of a file run; of a traverse, words plus instructions */
+    FM8502_MOST_FILES = 64,           /* the most files of a traverse */
     FM8502_MACHINE_SIZE = 12,         /* the words of a machine */
-    FM8502_STATE_SIZE = 21            /* the words of a gate state */
+    FM8502_STATE_SIZE = 21,           /* the words of a gate state */
+    FM8502_FILE_SIZE = 4              /* the places of a file of a traverse */
 };
 
 /* Bytes of the image of a memory of so many words. */
@@ -62,6 +66,15 @@ enum {
     FM8502_LEFT = 20      /* its clocks left, the completing one included; above 65,535: FM8502_BAD_GATE_STATE */
 };
 
+/* ---- A file of a traverse: 4 places */
+
+enum {
+    FM8502_FILE_PLACE = 0, /* the address of the first of its words */
+    FM8502_FILE_WORDS = 1, /* how many words are laid */
+    FM8502_FILE_ENTRY = 2, /* r0 when it begins to run */
+    FM8502_FILE_COUNT = 3  /* how many instructions are to run */
+};
+
 /* ---- Codes */
 
 enum {
@@ -71,22 +84,25 @@ enum {
     FM8502_TOO_MANY_WORDS = 2,        /* the memory has more than 16,777,216 words */
     FM8502_LONG_WAIT_LIST = 3,        /* the wait list has more than 65,536 entries */
     FM8502_BAD_GATE_STATE = 4,        /* the row, the list position or the access is bad */
-    FM8502_TOO_MANY_INSTRUCTIONS = 5, /* the file run wants more than 65,536 instructions */
-    FM8502_SHORT_JOURNAL = 6,         /* the journal has fewer than two places for each instruction */
+    FM8502_TOO_MANY_INSTRUCTIONS = 5, /* more than 65,536 instructions in a file run, or words and instructions in a traverse */
+    FM8502_SHORT_JOURNAL = 6,         /* the journal has fewer than two places for each instruction, and each word of a traverse */
     FM8502_SHORT_OUTPUT = 7,          /* the output is shorter than the image */
     FM8502_CUT_IMAGE = 8,             /* the image ends inside a field or before its end field */
     FM8502_WRONG_TAG = 9,             /* a tag is not the one due */
     FM8502_WRONG_LENGTH = 10,         /* a length is not the one due */
-    FM8502_WRONG_VERSION = 11,        /* the version is not 1 */
+    FM8502_WRONG_VERSION = 11,        /* the version is neither 1 nor 2 */
     FM8502_BAD_FLAG = 12,             /* a flag byte exceeds 1 */
     FM8502_BAD_WORD_COUNT = 13,       /* the word count is 0 or above 16,777,216 */
     FM8502_SHORT_MEMORY = 14,         /* the memory is shorter than the word count */
     FM8502_TRAILING_BYTES = 15,       /* bytes follow the end field */
+    FM8502_TOO_MANY_FILES = 16,       /* the traverse has more than 64 files */
+    FM8502_FILE_MISPLACED = 17,       /* a file's place plus words exceeds the memory, or a word of it lies below the bottom */
+    FM8502_WORDS_MISMATCHED = 18,     /* the files' words do not add up to the list of words */
     FM8502_BOTTOM_TOO_HIGH = 21,      /* the bottom exceeds the memory's length */
     FM8502_RESETS_NOT_RISING = 22,    /* the reset list does not rise strictly */
-    FM8502_STOPPED = 100,             /* carried out: "outside", or "undone" for a file run */
+    FM8502_STOPPED = 100,             /* carried out: "outside", or "undone" for a file run, or a traverse under rule 2 */
     FM8502_HALTED = 101,              /* carried out: "no instruction"; fm8502_run alone */
-    FM8502_MISFIT = 200               /* machine, state or result of another length than named */
+    FM8502_MISFIT = 200               /* machine, state, result or files of another length than named */
 };
 
 /* ---- Calls
@@ -99,6 +115,8 @@ enum {
  * waits: at most FM8502_MOST_WAITS entries. Each access to memory takes the next
  * entry and waits so many clocks; after the last entry the list begins again. An
  * empty list (NULL, 0) means no waits.
+ * version: 1 or 2, of an image and of a traverse: what a traverse takes back where one
+ * of its files is undone. Rule 1: that file; rule 2: the whole traverse.
  * machine_words is 12, state_words 21; result_places is named at each call.
  */
 
@@ -138,6 +156,44 @@ uint32_t fm8502_file_run(uint32_t *memory, size_t memory_words, uint32_t bottom,
                          size_t result_places);
 
 /*
+ * Runs a traverse: up to FM8502_MOST_FILES files on one memory, in their order.
+ * files: four places to a file, so that files_places is a multiple of FM8502_FILE_SIZE;
+ * (NULL, 0): no files. words: those of all files, one file's behind the other's, and as
+ * many as the files have together.
+ * For each file its words are laid in memory, the first at its place and the others
+ * behind it; r0 becomes its entry; then up to its count of instructions run, as in
+ * fm8502_file_run. The other registers, flags and memory go on from file to file. A laid
+ * word is journaled as a store is, in the order of the words: address and former word,
+ * with the next store number. Numbers go on through the traverse, so that pair i is at
+ * journal[2 * i] and journal[2 * i + 1]; other places do not change.
+ * A file is undone where fm8502_run would stop or halt in it. Its pairs stay in the
+ * journal, and what it laid and stored is taken back:
+ * - Rule 1 (version 1): memory, registers (r0 too) and flags are as before its words were
+ *   laid. The next file follows, and its pairs are numbered on after those of the undone
+ *   file. machine is written at the end, also if every file was undone.
+ * - Rule 2 (version 2): memory goes back to the start of the traverse, machine is not
+ *   written, and later files are not laid and do not run (FM8502_STOPPED: "undone").
+ * A file's place plus its words is at most memory_words, also for a file of no words, and
+ * a file that has words has its place at bottom or above (FM8502_FILE_MISPLACED).
+ * The files' words plus instruction counts are at most FM8502_MOST_INSTRUCTIONS together,
+ * and journal has at least two places for each of them. Sums are looked at as natural
+ * numbers, over all files lent, however many, and do not go round.
+ * A file run is the traverse, under either rule, of one file with no words at place 0,
+ * whose entry is r0; it is undone where that file is.
+ * result, 3 places: under rule 1 the undone files, bit i for file i, from 0; under rule 2
+ * the number of the undone file, from 0, and 0 where all finished (the code tells
+ * which); instructions that ran in the last file run, also if undone, and 0 with no
+ * files; pairs in the journal.
+ * Codes: 0 (under rule 1 whichever files were undone), 1, 2, 21, 5, 6, 16, 17, 18, 11,
+ * 100 (rule 2), 200.
+ */
+uint32_t fm8502_traverse(uint32_t *memory, size_t memory_words, uint32_t bottom,
+                         uint32_t *journal, size_t journal_places, const uint32_t *words,
+                         size_t words_length, const uint32_t *files, size_t files_places,
+                         uint32_t *machine, size_t machine_words, uint32_t version,
+                         uint64_t *result, size_t result_places);
+
+/*
  * Does so many clocks of the gate machine. To start between instructions at the
  * head of the wait list: the machine's 12 words, and 0 in the other 9; where
  * fm8502_run left off: the same, with its position at FM8502_POSITION. A run that
@@ -172,7 +228,7 @@ uint32_t fm8502_clock(uint32_t *memory, size_t memory_words, uint32_t bottom,
 /*
  * Loads an image: its words to the front of memory, whose further words do not
  * change, and its registers and flags to machine.
- * result, 1 place: the number of words loaded.
+ * result, 2 places: the number of words loaded; the image's version, 1 or 2.
  * Codes: 0, 8 to 15, 200.
  */
 uint32_t fm8502_image_read(const uint8_t *bytes, size_t bytes_length, uint32_t *memory,
@@ -180,14 +236,15 @@ uint32_t fm8502_image_read(const uint8_t *bytes, size_t bytes_length, uint32_t *
                            uint64_t *result, size_t result_places);
 
 /*
- * Writes the image of machine and memory to the front of out, whose further bytes
- * do not change. out: at least FM8502_IMAGE_SIZE(memory_words) bytes.
+ * Writes the image of machine and memory, of the version given, to the front of out,
+ * whose further bytes do not change. The versions differ in their number alone.
+ * out: at least FM8502_IMAGE_SIZE(memory_words) bytes.
  * result, 1 place: the size of the image.
- * Codes: 0, 1, 2, 7, 200.
+ * Codes: 0, 1, 2, 7, 11, 200.
  */
 uint32_t fm8502_image_write(const uint32_t *memory, size_t memory_words, const uint32_t *machine,
-                            size_t machine_words, uint8_t *out, size_t out_length,
-                            uint64_t *result, size_t result_places);
+                            size_t machine_words, uint32_t version, uint8_t *out,
+                            size_t out_length, uint64_t *result, size_t result_places);
 
 #ifdef __cplusplus
 }

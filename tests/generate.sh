@@ -38,7 +38,8 @@ made examples/outside.image "$make_image" -w examples/outside.words -m 11 -r 1=8
 made examples/halted.image "$make_image" -w examples/halted.words -r 1=7 -r 2=3 -r 3=4
 made examples/loader.image "$make_image" -w examples/loader.words -r 1=11 -r 3=5 -r 4=8
 made examples/restart.image "$make_image" -w examples/restart.words -r 0=10 -r 1=1A -r 2=14 -r 3=4 -r 4=10
-for name in stacking outside halted loader restart; do
+made examples/line.image "$make_image" -w examples/line.words -m 22 -r 4=4 -r 6=B --version 2
+for name in stacking outside halted loader restart line; do
     made "examples/$name.ledger" "$ledger" <"examples/$name.image"
 done
 

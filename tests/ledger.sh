@@ -49,7 +49,7 @@ prints "the sixteenth word is no instruction" "halted 15 135"
 prints "a program that stores a word that is no instruction" "halted 1 10"
 "$make_image" -r 1=00010021 -r 2=1 00000141 80010021 >"$work/input"
 prints "a program that repairs a word that is no instruction" "outside 2 19"
-for name in stacking outside halted loader restart; do
+for name in stacking outside halted loader restart line; do
     cp "examples/$name.image" "$work/input"
     prints "examples/$name.image" "$(tail -n 1 "examples/$name.ledger")"
 done

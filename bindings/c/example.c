@@ -1,11 +1,13 @@
 /*
  * Stacks the traces of an image under a wait list, rolls a file back, runs into a
  * word that is no instruction, stores into a loader on a board that holds it, and
- * on one that does not, and restarts a drifted sledge by its reset line.
+ * on one that does not, restarts a drifted sledge by its reset line, and runs the
+ * files of a line as a traverse under either rule.
  * Usage: example FOLDER, the folder of the example images.
  */
 #include "fm8502.h"
 
+#include <inttypes.h>
 #include <stdio.h>
 #include <stdlib.h>
 #include <string.h>
@@ -21,17 +23,30 @@ enum {
     RESET = 1000,     /* a clock on which restart.image is stuck */
     FIRST_PART = 40,  /* of the instructions after it */
     RESTARTED_ACCUMULATORS = 0x14,
-    RESTARTED_SAMPLES = 4
+    RESTARTED_SAMPLES = 4,
+    FILES = 3, /* of line.files */
+    MOST_FILE_WORDS = 32,
+    MOST_PLACES = 256, /* of their journal */
+    FILE_COUNT = 0x0B,
+    PROFILE = 0x0C
 };
 
-/* A machine with its memory, and its position in the wait list. */
+/* A machine with its memory, its image's version, and its position in the wait list. */
 typedef struct {
     uint32_t machine[FM8502_MACHINE_SIZE];
     uint32_t memory[MEMORY_WORDS];
     size_t words;
+    uint32_t version;
     uint32_t bottom;
     uint32_t position;
 } Card;
+
+/* Files as the library takes them, with the journal's places that they need. */
+typedef struct {
+    uint32_t files[FILES * FM8502_FILE_SIZE];
+    uint32_t words[MOST_FILE_WORDS];
+    size_t count, words_length, journal_places;
+} Line;
 
 static FILE *open_file(const char *folder, const char *name, const char *mode) {
     char path[4096];
@@ -44,6 +59,12 @@ static FILE *open_file(const char *folder, const char *name, const char *mode) {
     return file;
 }
 
+static void fail_unless(int good, const char *text) {
+    if (good) return;
+    fprintf(stderr, "%s\n", text);
+    exit(1);
+}
+
 /* Ends the program unless the code is the one expected here. */
 static void expect(const char *call, uint32_t code, uint32_t expected) {
     if (code != expected) {
@@ -52,20 +73,26 @@ static void expect(const char *call, uint32_t code, uint32_t expected) {
     }
 }
 
+static Card read_image(const uint8_t *bytes, size_t length) {
+    Card card;
+    uint64_t result[2];
+    expect("image read",
+           fm8502_image_read(bytes, length, card.memory, MEMORY_WORDS, card.machine,
+                             FM8502_MACHINE_SIZE, result, 2),
+           FM8502_DONE);
+    card.words = (size_t)result[0];
+    card.version = (uint32_t)result[1];
+    card.bottom = 0;
+    card.position = 0;
+    return card;
+}
+
 static Card load(const char *folder, const char *name) {
     static uint8_t bytes[FM8502_IMAGE_SIZE(MEMORY_WORDS) + 1];
     FILE *file = open_file(folder, name, "rb");
     size_t length = fread(bytes, 1, sizeof bytes, file);
     fclose(file);
-    Card card;
-    uint64_t words;
-    expect("image read",
-           fm8502_image_read(bytes, length, card.memory, MEMORY_WORDS, card.machine,
-                             FM8502_MACHINE_SIZE, &words, 1),
-           FM8502_DONE);
-    card.words = (size_t)words;
-    card.bottom = 0;
-    card.position = 0;
+    Card card = read_image(bytes, length);
     printf("%s: %zu words\n", name, card.words);
     return card;
 }
@@ -76,6 +103,51 @@ static size_t load_waits(const char *folder, uint16_t *waits) {
     while (entries < MOST_WAITS && fscanf(file, "%hu", &waits[entries]) == 1) entries++;
     fclose(file);
     return entries;
+}
+
+/* Adds a file behind those of the line, with its words. */
+static void add_file(Line *line, const uint32_t *file, const uint32_t *words) {
+    size_t length = file[FM8502_FILE_WORDS];
+    memcpy(line->files + FM8502_FILE_SIZE * line->count, file, 4 * FM8502_FILE_SIZE);
+    memcpy(line->words + line->words_length, words, 4 * length);
+    line->count++;
+    line->words_length += length;
+    line->journal_places += 2 * (length + file[FM8502_FILE_COUNT]);
+}
+
+/* The line's other files. */
+static Line without_file(const Line *line, size_t left_out) {
+    Line others = {.count = 0};
+    const uint32_t *words = line->words;
+    for (size_t i = 0; i < line->count; i++) {
+        const uint32_t *file = line->files + FM8502_FILE_SIZE * i;
+        if (i != left_out) add_file(&others, file, words);
+        words += file[FM8502_FILE_WORDS];
+    }
+    return others;
+}
+
+/* So many hexadecimal numbers. */
+static void read_numbers(FILE *file, uint32_t *numbers, size_t count) {
+    for (size_t i = 0; i < count; i++)
+        fail_unless(fscanf(file, "%" SCNx32, &numbers[i]) == 1, "line.files: a number is missing");
+}
+
+/* A file on each line: place, number of words, entry, instruction count, and its words. */
+static Line load_files(const char *folder) {
+    FILE *text = open_file(folder, "line.files", "r");
+    Line line = {.count = 0};
+    while (line.count < FILES) {
+        uint32_t file[FM8502_FILE_SIZE], words[MOST_FILE_WORDS];
+        read_numbers(text, file, FM8502_FILE_SIZE);
+        size_t length = file[FM8502_FILE_WORDS];
+        fail_unless(line.words_length + length <= MOST_FILE_WORDS, "line.files: too many words");
+        read_numbers(text, words, length);
+        add_file(&line, file, words);
+    }
+    fail_unless(line.journal_places <= MOST_PLACES, "line.files: too many instructions");
+    fclose(text);
+    return line;
 }
 
 static void print_words(const char *name, const uint32_t *words, size_t count) {
@@ -256,6 +328,67 @@ static void restart(Card *start, const uint16_t *waits, size_t entries) {
     refuse_resets(start, waits, entries);
 }
 
+static void rewrite(const Card *card) {
+    static uint8_t image[FM8502_IMAGE_SIZE(MEMORY_WORDS)];
+    uint64_t size;
+    expect("image write",
+           fm8502_image_write(card->memory, card->words, card->machine, FM8502_MACHINE_SIZE, 1,
+                              image, sizeof image, &size, 1),
+           FM8502_DONE);
+    Card again = read_image(image, (size_t)size);
+    printf("written as version 1: %llu bytes, read again as version %u\n",
+           (unsigned long long)size, (unsigned)again.version);
+}
+
+/* The code of a traverse of the line's files under the rule of a version. */
+static uint32_t traverse(Card *card, const Line *line, uint32_t version, uint64_t *result) {
+    uint32_t journal[MOST_PLACES];
+    return fm8502_traverse(card->memory, card->words, card->bottom, journal, line->journal_places,
+                           line->words, line->words_length, line->files,
+                           line->count * FM8502_FILE_SIZE, card->machine, FM8502_MACHINE_SIZE,
+                           version, result, 3);
+}
+
+static void print_profile(const Card *by_file, const Card *whole) {
+    printf("profile, file by file: rule 1, rule 2\n");
+    for (int file = 0; file < FILES; file++) {
+        printf("%d %08X %08X\n", file, (unsigned)by_file->memory[PROFILE + file],
+               (unsigned)whole->memory[PROFILE + file]);
+    }
+    printf("files stacked %u %u\n", (unsigned)by_file->memory[FILE_COUNT],
+           (unsigned)whole->memory[FILE_COUNT]);
+}
+
+/* One file of the line is undone: by rule 1 that file is taken back, by rule 2 the line. */
+static void take_back(const Card *start, const Line *line) {
+    Card by_file = *start, whole = *start, left = *start;
+    uint64_t result[3];
+    expect("traverse", traverse(&by_file, line, 1, result), FM8502_DONE);
+    printf("rule 1: undone %016llX, %llu instructions, %llu pairs\n",
+           (unsigned long long)result[0], (unsigned long long)result[1],
+           (unsigned long long)result[2]);
+    expect("traverse", traverse(&whole, line, 2, result), FM8502_STOPPED);
+    printf("rule 2: undone in file %llu, %llu instructions, %llu pairs\n",
+           (unsigned long long)result[0], (unsigned long long)result[1],
+           (unsigned long long)result[2]);
+    print_profile(&by_file, &whole);
+
+    Line alone = without_file(line, 1);
+    expect("traverse", traverse(&left, &alone, 1, result), FM8502_DONE);
+    printf("rule 1 as files 0 and 2 alone: %s\n", alike(&by_file, &left) ? "yes" : "no");
+    printf("rule 2 as before: %s\n", alike(&whole, start) ? "yes" : "no");
+}
+
+static void run_line(Card *card, const Line *line) {
+    printf("version %u\n", (unsigned)card->version);
+    rewrite(card);
+    take_back(card, line);
+    uint64_t result[3];
+    uint32_t code = traverse(card, line, 3, result);
+    expect("traverse", code, FM8502_WRONG_VERSION);
+    printf("version 3: refused %u\n", (unsigned)code);
+}
+
 int main(int count, char **arguments) {
     const char *folder = count > 1 ? arguments[1] : "examples";
     uint16_t waits[MOST_WAITS];
@@ -270,5 +403,8 @@ int main(int count, char **arguments) {
     store_into_loader(&loader, waits, entries);
     Card drifted = load(folder, "restart.image");
     restart(&drifted, waits, entries);
+    Card card = load(folder, "line.image");
+    Line line = load_files(folder);
+    run_line(&card, &line);
     return 0;
 }

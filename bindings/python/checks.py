@@ -1,5 +1,6 @@
 """What the module refuses, how a wait list goes on, what a halting word does, what the bottom
-keeps, what a reset does, and that arrays are lent without a copy.
+keeps, what a reset does, what a traverse takes back, which versions an image has, and that
+arrays are lent without a copy.
 
 numpy is looked at where it is installed.
 """
@@ -21,6 +22,9 @@ PROGRAM = (0x00010021, 0x00050421)
 HALTING = (PROGRAM[0], 1 << 14)
 # inc (r2),(r2): 11 clocks, and its four accesses wait 2, 3, 2, 3
 STORING = (0x0001014A, 0, 0, 41)
+# Files for it: 7 at address 3, one more by an instruction; and 9, undone since its entry is missing
+GOOD = (3, (7,), 0, 1)
+UNDONE = (3, (9,), 4, 1)
 
 
 def refuses(error, words, call, *arguments, **named):
@@ -39,9 +43,10 @@ def check_machine():
         for call, lent in (
             (fm8502.run, (memory, waits, machine, 1)),
             (fm8502.file_run, (memory, array("I", [0] * 2), machine, 1)),
+            (fm8502.traverse, (memory, [], machine, 1)),
             (fm8502.gate_run, (memory, waits, fm8502.GateState(machine), 1)),
             (fm8502.clock, (memory, waits, fm8502.GateState(machine))),
-            (fm8502.write_image, (memory, machine)),
+            (fm8502.write_image, (memory, machine, 1)),
         ):
             refuses(ValueError, "eight registers and four flags", call, *lent)
 
@@ -63,7 +68,7 @@ def check_shapes():
     machine, waits = fm8502.Machine(), array("H")
     flat = memoryview(array("I", [*PROGRAM, 0, 0])).cast("B")
     refuses(TypeError, "one dimension", fm8502.run, flat.cast("I", (2, 2)), waits, machine, 1)
-    refuses(TypeError, "one dimension", fm8502.write_image, flat.cast("I", (4, 1)), machine)
+    refuses(TypeError, "one dimension", fm8502.write_image, flat.cast("I", (4, 1)), machine, 1)
     apart = flat.cast("I")[::2]
     refuses(TypeError, "one behind the other", fm8502.run, apart, waits, machine, 1)
     refuses(TypeError, "4 bytes", fm8502.run, array("H", [0]), waits, machine, 1)
@@ -226,6 +231,201 @@ def check_reset_lists():
     refuses(TypeError, "positional argument", fm8502.gate_run, *lent, numbers)
 
 
+def storing_machine():
+    return fm8502.Machine(registers=[0, 0, 3, 0, 0, 0, 0, 0], flags=[9, 0, 0, 0])
+
+
+def traverse_of(files, rule, **named):
+    """The answer, and what is left: word 3 of STORING, the machine, and the journal's pairs."""
+    memory, machine = array("I", STORING), storing_machine()
+    journal = array("I", [0] * fm8502.journal_places(files))
+    ran = fm8502.traverse(memory, files, machine, rule, journal=journal, **named)
+    assert memory[:3].tolist() == list(STORING[:3]) and not any(journal[2 * ran.pairs :])
+    pairs = journal[: 2 * ran.pairs].tolist()
+    return ran, memory[3], machine, list(zip(pairs[::2], pairs[1::2]))
+
+
+def check_rule_1():
+    """An undone file is taken back and leaves its pairs; the next one follows."""
+    ran, word, machine, pairs = traverse_of([GOOD, UNDONE, GOOD], 1)
+    assert ran == fm8502.Traverse(False, undone=(1,), ran=1, pairs=5) and word == 8
+    assert machine == fm8502.Machine([1, 0, 3, 0, 0, 0, 0, 0], [True, False, False, False])
+    assert pairs == [(3, 41), (3, 7), (3, 8), (3, 8), (3, 7)]
+    ran, word, machine, pairs = traverse_of([GOOD, UNDONE], fm8502.Rule.PER_FILE)
+    assert ran == fm8502.Traverse(False, undone=(1,), ran=0, pairs=3) and word == 8
+    assert machine.registers[0] == 1 and pairs == [(3, 41), (3, 7), (3, 8)]
+    ran, word, machine, _ = traverse_of([UNDONE], 1)
+    assert ran.undone == (0,) and word == 41 and machine.registers[0] == 0
+    # The last of 64 files has the highest bit.
+    for files, undone in (([UNDONE] * 64, range(64)), ([GOOD] * 63 + [UNDONE], [63])):
+        assert traverse_of(files, 1)[0].undone == tuple(undone)
+
+
+def check_rule_2():
+    """An undone file takes back the traverse, but its pairs stay; later files do not run."""
+    ran, word, machine, pairs = traverse_of([GOOD, UNDONE, GOOD], 2)
+    assert ran == fm8502.Traverse(False, undone=(1,), ran=0, pairs=3) and word == 41
+    assert machine == storing_machine() and pairs == [(3, 41), (3, 7), (3, 8)]
+    # The first file by number, and no file.
+    ran, word, machine, _ = traverse_of([UNDONE, GOOD], fm8502.Rule.PER_TRAVERSE)
+    assert not ran.finished and ran.undone == (0,) and word == 41 and machine == storing_machine()
+    ran, word, machine, _ = traverse_of([GOOD, GOOD], 2)
+    assert ran == fm8502.Traverse(True, undone=(), ran=1, pairs=4) and word == 8
+    assert machine.registers[0] == 1
+
+
+def check_files():
+    """Registers go on, files may be none, and their words a part of the memory."""
+    for rule in fm8502.Rule:
+        assert traverse_of([], rule)[0] == fm8502.Traverse(True, undone=(), ran=0, pairs=0)
+        memory, machine = array("I", PROGRAM), fm8502.Machine()
+        files = [fm8502.File(place=0, words=memory[:1], entry=0, count=1)] * 3
+        assert fm8502.traverse(memory, files, machine, rule).finished
+        assert machine.registers[:2] == [1, 3]
+        part = [(0, memoryview(memory)[1:], 0, 1)]
+        assert fm8502.traverse(memory, part, machine, rule).finished and memory[0] == PROGRAM[1]
+    assert fm8502.journal_places([GOOD, UNDONE, (0, (), 0, 9)]) == 2 * (2 + 2 + 9)
+
+
+def check_one_file():
+    """A file run is the traverse of one file with no words at place 0, entered at r0."""
+    for words, count in ((PROGRAM, 2), (PROGRAM, 3), (HALTING, 2), (STORING, 1), (STORING, 9)):
+        for rule, bottom in ((1, 0), (2, 0), (1, 1), (2, 2)):
+            start = fm8502.Machine(registers=[0, 0, 1, 0, 0, 0, 0, 0])
+            lent = array("I", words), array("I", [7] * 18), start
+            memory, journal, machine = copy.deepcopy(lent)
+            ran = fm8502.file_run(*lent, count, bottom=bottom)
+            files = [(0, (), 0, count)]
+            same = fm8502.traverse(memory, files, machine, rule, bottom=bottom, journal=journal)
+            assert (ran.finished, ran.ran, ran.pairs) == (same.finished, same.ran, same.pairs)
+            assert lent == (memory, journal, machine)
+
+
+def refuses_traverse(number, files, memory=STORING, rule=1, **named):
+    memory, machine = array("I", memory), fm8502.Machine()
+    former = memory[:]
+    lent = memory, files, machine, rule
+    refuses(fm8502.Refused, f"refused {number}:", fm8502.traverse, *lent, **named)
+    assert memory == former and machine == fm8502.Machine()
+
+
+def check_files_refused():
+    """Sums are of all files and do not go round; words lie in the memory, not below the bottom."""
+    top, most = (1 << 32) - 1, 65536
+    refuses_traverse(1, [GOOD], memory=())
+    refuses_traverse(21, [(0, (), 0, top)], bottom=5)
+    for files in (
+        [(0, (), 0, top)] * 2,
+        [(0, (), 0, 1024)] * 65,
+        [(0, [0] * (most + 1), 0, 0)],
+        [(0, [0] * most, 0, 1)],
+    ):
+        refuses_traverse(5, files)
+    refuses_traverse(6, [GOOD], journal=array("I", [0] * 3))
+    refuses_traverse(6, [(5, (), 0, 1)] * 65, journal=array("I", [0] * 129))
+    refuses_traverse(16, [(5, (), 0, 1)] * 65)
+    for place, words in ((5, ()), (top, ()), (4, (1,)), (2, (1, 2, 3)), (top, (1,))):
+        refuses_traverse(17, [GOOD, (place, words, 0, 0)], rule=3)
+    refuses_traverse(17, [(2, (1,), 0, 0)], bottom=3)
+    for rule in (0, 3, top):
+        refuses_traverse(11, [GOOD], rule=rule)
+    assert traverse_of([(4, (), 0, 0), (2, (), 0, 0), (3, (1,), 0, 0)], 1, bottom=3)[1] == 1
+    whole = array("I", bytes(4 * most))
+    ran = fm8502.traverse(whole, [(0, [5] * most, 0, 0)], fm8502.Machine(), 2)
+    assert ran == fm8502.Traverse(True, (), 0, pairs=most) and set(whole) == {5}
+
+
+def plain_traverse(memory, bottom, count, journal, files, place, joined, version, sizes=(0, 12, 3)):
+    """The library's own call, whose list of words need not fit; of the files the first has a word.
+
+    sizes: places behind the files, words of the machine, places of the result.
+    """
+    behind, machine, result = sizes
+    places = [place, 1, 0, count, *[0] * (4 * (files - 1) + behind)]
+    lent = memory, journal, array("I", [7] * joined), array("I", places), array("I", [9] * machine)
+    result, former = array("Q", [9] * result), copy.deepcopy(lent)
+    memory, *lists, machine = (fm8502._lent(ctypes.c_uint32, words) for words in lent)
+    board = fm8502._board(memory, bottom, *lists)
+    answer = fm8502._apart(fm8502._lent(ctypes.c_uint64, result))
+    try:
+        fm8502._call("traverse", *board, *fm8502._apart(machine), ctypes.c_uint32(version), *answer)
+    except (fm8502.Refused, AssertionError):
+        assert lent == former and set(result) == {9}
+        raise
+
+
+def check_traverse_order():
+    """The first reason is given, and a misfit before it; one after the other is mended."""
+    lent = {
+        "memory": array("I"),
+        "bottom": 5,
+        "count": 65536,
+        "journal": array("I", [7] * 3),
+        "files": 65,
+        "place": 4,
+        "joined": 2,
+        "version": 3,
+    }
+    for number, mended in (
+        (1, {"memory": array("I", STORING)}),
+        (21, {"bottom": 3}),
+        (5, {"count": 1}),
+        (6, {"journal": array("I", [7] * 4)}),
+        (16, {"files": 64}),
+        (17, {"place": 2}),
+        (17, {"place": 3}),
+        (18, {"joined": 0}),
+        (18, {"joined": 1}),
+        (11, {"version": 2}),
+    ):
+        refuses(fm8502.Refused, f"refused {number}:", plain_traverse, **lent)
+        for sizes in ((1, 12, 3), (3, 12, 3), (0, 11, 3), (0, 13, 3), (0, 12, 2), (0, 12, 4)):
+            refuses(AssertionError, "lengths due", plain_traverse, **lent, sizes=sizes)
+        lent.update(mended)
+    plain_traverse(**lent)
+
+
+def check_file_types():
+    """A file is four values, its words an array, a list or a tuple; a rule is a number."""
+    memory, machine = array("I", STORING), fm8502.Machine()
+    words = array("I", [7])
+    for laid in (words, memoryview(words).toreadonly(), [7]):
+        assert traverse_of([(3, laid, 0, 1)], 1) == traverse_of([fm8502.File(*GOOD)], 1)
+    for error, text, bad in (
+        (ValueError, "place, entry or count", ((-1, (), 0, 0), (0, (), 1 << 32, 0), (0, (), 0, -1))),
+        (ValueError, "not one of 32 bits", ((3, [-1], 0, 0), (3, (1 << 32,), 0, 0))),
+        (TypeError, "as an integer", ((3, [1.0], 0, 0), (3, ("1",), 0, 0), (3, (), 0, 1.0))),
+        (TypeError, "4 bytes", ((3, b"7", 0, 0), (3, array("H"), 0, 0), (3, array("i"), 0, 0))),
+        (TypeError, "missing", ((3, words, 0), ())),
+    ):
+        for file in bad:
+            refuses(error, text, fm8502.traverse, memory, [GOOD, file], machine, 1)
+    for rule in (-1, 1 << 32):
+        refuses(ValueError, "a count of 32 bits", fm8502.traverse, memory, [GOOD], machine, rule)
+    refuses(TypeError, "float", fm8502.traverse, memory, [GOOD], machine, 1.0)
+    refuses(TypeError, "positional argument", fm8502.traverse, memory, [GOOD], machine, 1, 0)
+    refuses(ValueError, "share places", fm8502.traverse, memory, [], machine, 1, journal=memory)
+    assert tuple(memory) == STORING
+
+
+def check_versions():
+    """An image is of version 1 or 2, by default 1, and alike but for the number."""
+    memory, machine = array("I", STORING), fm8502.Machine(registers=list(range(8)))
+    image = fm8502.write_image(memory, machine, fm8502.Rule.PER_FILE)
+    for rule in fm8502.Rule:
+        of_rule = fm8502.write_image(memory, machine, rule)
+        assert of_rule == fm8502.write_image(memory, machine, int(rule))
+        assert of_rule == image[:3] + bytes([rule]) + image[4:]
+        read = fm8502.read_image(of_rule, len(memory))
+        assert read == (machine, memory, rule) and isinstance(read[2], fm8502.Rule)
+    for version in (0, 3, 255):
+        bad = image[:3] + bytes([version]) + image[4:]
+        refuses(fm8502.Refused, "refused 11: the version is", fm8502.read_image, bad, 4)
+        refuses(fm8502.Refused, "refused 11", fm8502.write_image, memory, machine, version)
+    refuses(fm8502.Refused, "refused 1:", fm8502.write_image, memory[:0], machine, 3)
+    refuses(ValueError, "a count of 32 bits", fm8502.write_image, memory, machine, 1 << 32)
+
+
 def check_numpy():
     """What is lent is the array itself, also a wait list and a part of an array."""
     words = numpy.array([*PROGRAM, 0, 0], dtype=numpy.uint32)
@@ -239,6 +439,8 @@ def check_numpy():
     memory = numpy.array(STORING, dtype=numpy.uint32)
     machine = fm8502.Machine(registers=[0, 0, 3, 0, 0, 0, 0, 0])
     assert fm8502.run(memory, waits, machine, 1).clocks == 21 and memory[3] == 42
+    files = [(numpy.uint32(3), numpy.array([7], dtype=numpy.uint32), 0, 1)]
+    assert fm8502.traverse(memory, files, machine, 1).pairs == 2 and memory[3] == 8
     for shape, error in (
         (memory.reshape(2, 2), "one dimension"),
         (memory[::2], "one behind the other"),
@@ -246,7 +448,7 @@ def check_numpy():
         (memory.astype(">u4"), "4 bytes"),
     ):
         refuses(TypeError, error, fm8502.run, shape, waits, machine, 1)
-        refuses(TypeError, error, fm8502.write_image, shape, machine)
+        refuses(TypeError, error, fm8502.write_image, shape, machine, 1)
     refuses(ValueError, "share places", fm8502.file_run, memory, memory[3:], machine, 0)
 
 
@@ -261,6 +463,14 @@ check_bottom()
 check_below_bottom()
 check_reset()
 check_reset_lists()
+check_rule_1()
+check_rule_2()
+check_files()
+check_one_file()
+check_files_refused()
+check_traverse_order()
+check_file_types()
+check_versions()
 if numpy is not None:
     check_numpy()
 print("python: checked", "with numpy" if numpy is not None else "without numpy")

@@ -1,6 +1,7 @@
 """Stacks the traces of an image under a wait list, rolls a file back, runs into a word that is
-no instruction, stores into a loader on a board that holds it, and on one that does not, and
-restarts a drifted sledge by its reset line.
+no instruction, stores into a loader on a board that holds it, and on one that does not,
+restarts a drifted sledge by its reset line, and runs the files of a line as a traverse under
+either rule.
 
 Usage: example.py FOLDER, the folder of the example images.
 """
@@ -21,6 +22,9 @@ LOADER_WORDS = 4
 RESET = 1000
 FIRST_PART = 40
 RESTARTED_ACCUMULATORS = slice(0x14, 0x18)
+# of line.image
+FILE_COUNT = 0x0B
+PROFILE = slice(0x0C, 0x0F)
 
 
 def words(values):
@@ -28,9 +32,18 @@ def words(values):
 
 
 def load(folder, name):
-    machine, memory = fm8502.read_image((folder / name).read_bytes(), 4096)
+    machine, memory, rule = fm8502.read_image((folder / name).read_bytes(), 4096)
     print(f"{name}: {len(memory)} words")
-    return memory, machine
+    return memory, machine, rule
+
+
+def load_files(path):
+    """A file on each line: place, number of words, entry, instruction count, and its words."""
+    files = []
+    for line in path.read_text().splitlines():
+        place, length, entry, count, *laid = (int(number, 16) for number in line.split())
+        files.append(fm8502.File(place, laid[:length], entry, count))
+    return files
 
 
 def run(memory, waits, machine, bottom=0, name="run", position=0):
@@ -141,19 +154,59 @@ def restart(memory, waits, machine):
         print(f"resets {RESET} {RESET}: refused", refused.number)
 
 
+def rewrite(memory, machine):
+    image = fm8502.write_image(memory, machine, fm8502.Rule.PER_FILE)
+    _, _, rule = fm8502.read_image(image, len(memory))
+    print(f"written as version 1: {len(image)} bytes, read again as version {rule:d}")
+
+
+def traverse(memory, machine, files, rule):
+    """On a copy: the answer, and the memory and machine that are left."""
+    left = memory[:], copy.deepcopy(machine)
+    journal = array("I", bytes(4 * fm8502.journal_places(files)))
+    return fm8502.traverse(left[0], files, left[1], rule, journal=journal), left
+
+
+def take_back(memory, machine, files):
+    """One file of the line is undone: by rule 1 that file is taken back, by rule 2 the line."""
+    ran, by_file = traverse(memory, machine, files, fm8502.Rule.PER_FILE)
+    undone = sum(1 << file for file in ran.undone)
+    print(f"rule 1: undone {undone:016X}, {ran.ran} instructions, {ran.pairs} pairs")
+    ran, whole = traverse(memory, machine, files, fm8502.Rule.PER_TRAVERSE)
+    print(f"rule 2: undone in file {ran.undone[0]}, {ran.ran} instructions, {ran.pairs} pairs")
+    print("profile, file by file: rule 1, rule 2")
+    for file, points in enumerate(zip(by_file[0][PROFILE], whole[0][PROFILE])):
+        print(f"{file}{words(points)}")
+    print("files stacked", by_file[0][FILE_COUNT], whole[0][FILE_COUNT])
+    _, alone = traverse(memory, machine, [files[0], files[2]], fm8502.Rule.PER_FILE)
+    print("rule 1 as files 0 and 2 alone:", "yes" if by_file == alone else "no")
+    print("rule 2 as before:", "yes" if whole == (memory, machine) else "no")
+
+
+def run_line(memory, machine, rule, files):
+    print(f"version {rule:d}")
+    rewrite(memory, machine)
+    take_back(memory, machine, files)
+    try:
+        traverse(memory, machine, files, 3)
+    except fm8502.Refused as refused:
+        print("version 3: refused", refused.number)
+
+
 def main():
     folder = Path(sys.argv[1] if len(sys.argv) > 1 else "examples")
     waits = array("H", map(int, (folder / "stacking.waits").read_text().split()))
-    memory, machine = load(folder, "stacking.image")
+    memory, machine, _ = load(folder, "stacking.image")
     stack(memory, waits, machine)
-    memory, machine = load(folder, "outside.image")
+    memory, machine, _ = load(folder, "outside.image")
     roll_back(memory, machine)
-    memory, machine = load(folder, "halted.image")
+    memory, machine, _ = load(folder, "halted.image")
     halt(memory, waits, machine)
-    memory, machine = load(folder, "loader.image")
+    memory, machine, _ = load(folder, "loader.image")
     store_into_loader(memory, waits, machine)
-    memory, machine = load(folder, "restart.image")
+    memory, machine, _ = load(folder, "restart.image")
     restart(memory, waits, machine)
+    run_line(*load(folder, "line.image"), load_files(folder / "line.files"))
 
 
 main()

@@ -3,8 +3,9 @@
 Memory and journal are lent as array('I') or a numpy array of uint32, wait lists
 as array('H') or of uint16, reset lists as array('Q') or of uint64, or as a list or
 tuple, images as bytes. What can be written is lent without a copy; no two arrays of
-a call may share places. A call that is turned down raises Refused with the papers'
-number and leaves everything it was lent as it was.
+a call may share places. A file's words are array('I'), a numpy array of uint32, a
+list or a tuple, and are copied. A call that is turned down raises Refused with the
+papers' number and leaves everything it was lent as it was.
 
 Every run takes the memory's bottom by name: how many words at its front hold the
 board's loader, at most its length. A store to one of them takes its clocks and
@@ -16,14 +17,20 @@ import ctypes
 import operator
 import os
 from array import array
+from collections.abc import Sequence
 from ctypes import c_size_t, c_uint8, c_uint16, c_uint32, c_uint64
 from dataclasses import dataclass, field
+from enum import IntEnum
 from pathlib import Path
+from typing import NamedTuple
 
 _DONE = 0
 _STOPPED = 100
 _HALTED = 101
 _MISFIT = 200
+
+# The most words and instructions of a traverse, together.
+_MOST = 65536
 
 # The papers' reasons to turn a call down, by number.
 _REASONS = {
@@ -31,17 +38,20 @@ _REASONS = {
     2: "the memory has more than 16,777,216 words",
     3: "the wait list has more than 65,536 entries",
     4: "the row, the list position or the access is bad",
-    5: "the file run wants more than 65,536 instructions",
-    6: "the journal has fewer than two places for each instruction",
+    5: "more than 65,536 instructions in a file run, or words and instructions in a traverse",
+    6: "the journal has fewer than two places for each instruction, and each word of a traverse",
     7: "the output is shorter than the image",
     8: "the image ends inside a field or before its end field",
     9: "a tag is not the one due",
     10: "a length is not the one due",
-    11: "the version is not 1",
+    11: "the version is neither 1 nor 2",
     12: "a flag byte exceeds 1",
     13: "the word count is 0 or above 16,777,216",
     14: "the memory is shorter than the word count",
     15: "bytes follow the end field",
+    16: "the traverse has more than 64 files",
+    17: "a file's place plus words exceeds the memory, or a word of it lies below the bottom",
+    18: "the files' words do not add up to the list of words",
     21: "the bottom exceeds the memory's length",
     22: "the reset list does not rise strictly",
 }
@@ -131,6 +141,41 @@ class FileRun:
     pairs: int
 
 
+class Rule(IntEnum):
+    """What a traverse takes back where a file of it is undone; as a number, an image's version."""
+
+    # That file alone; the next one follows.
+    PER_FILE = 1
+    # The whole traverse; later files do not run.
+    PER_TRAVERSE = 2
+
+
+class File(NamedTuple):
+    """A file of a traverse; a tuple of these four will do."""
+
+    # The address of the first of its words.
+    place: int
+    # What is laid at the place before it runs.
+    words: Sequence
+    # r0 when it begins to run.
+    entry: int
+    # How many instructions are to run.
+    count: int
+
+
+@dataclass(frozen=True)
+class Traverse:
+    """How a traverse ended; not finished: a file was undone, and what the rule says taken back."""
+
+    finished: bool
+    # Numbers of the undone files, from 0; per traverse one at most, with which all were taken back.
+    undone: tuple
+    # Instructions that ran in the last file run, also if undone; 0 with no files.
+    ran: int
+    # Pairs of address and former word in the journal.
+    pairs: int
+
+
 def _load():
     folder = Path(__file__).resolve().parents[2] / "target" / "python"
     path = os.environ.get("FM8502_SO", str(folder / "libfm8502.so"))
@@ -203,15 +248,24 @@ def _count(number, bits):
     return c_uint32(number) if bits == 32 else c_uint64(number)
 
 
-def _reset_list(resets):
+def _numbers(kind, values, name):
     """An array as it is; a list or tuple of numbers as a copy."""
-    if not isinstance(resets, (list, tuple)):
-        return _shown(c_uint64, resets)
-    numbers = [operator.index(number) for number in resets]
-    # c_uint64 drops higher bits silently, so refuse them here.
-    if any(not 0 <= number < 1 << 64 for number in numbers):
-        raise ValueError("a reset is not a clock number of 64 bits")
-    return (c_uint64 * len(numbers))(*numbers)
+    if not isinstance(values, (list, tuple)):
+        return _shown(kind, values)
+    numbers = [operator.index(value) for value in values]
+    bits = 8 * ctypes.sizeof(kind)
+    # ctypes drops higher bits silently, so refuse them here.
+    if any(not 0 <= number < 1 << bits for number in numbers):
+        raise ValueError(f"{name} of {bits} bits")
+    return (kind * len(numbers))(*numbers)
+
+
+def _reset_list(resets):
+    return _numbers(c_uint64, resets, "a reset is not a clock number")
+
+
+def _file_words(file):
+    return _numbers(c_uint32, file.words, "a file has a word that is not one")
 
 
 def _board(memory, bottom, *beside):
@@ -255,6 +309,54 @@ def file_run(memory, journal, machine, count, *, bottom=0):
     return FileRun(finished=code == _DONE, ran=result[0], pairs=result[1])
 
 
+def _file_list(files):
+    """The files' words, joined, and their places; a file has four.
+
+    Where a length of more than 32 bits or the list of words is cut short, there are too
+    many words (5), and this comes before a list that does not fit (18).
+    """
+    words, places = array("I"), []
+    for file in files:
+        laid = _file_words(file)
+        words.extend(laid[: _MOST - len(words)])
+        places += [file.place, min(len(laid), (1 << 32) - 1), file.entry, file.count]
+    return words, _numbers(c_uint32, places, "a file's place, entry or count is not a number")
+
+
+def journal_places(files):
+    """The places that the journal of a traverse needs: two for each word and instruction."""
+    return sum(2 * (len(words) + operator.index(count)) for _, words, _, count in files)
+
+
+def _own_journal(files):
+    # Where more are needed, there are too many words and instructions (5), whatever the journal.
+    return array("I", bytes(4 * min(journal_places(files), 2 * _MOST)))
+
+
+def traverse(memory, files, machine, rule, *, bottom=0, journal=None):
+    """Runs up to 64 files in turn: lays a file's words from its place on, sets r0 to its entry,
+    and runs up to its count of instructions as file_run does. The other registers, flags and
+    memory go on from file to file.
+
+    The journal has journal_places(files) places; without one, the pairs are dropped. It
+    notes a laid word as it does a store, and keeps the pairs of what is taken back.
+
+    A file that stops before its end is undone, and the rule says what is then taken back:
+    the file, from before its words were laid, or the traverse, whose memory and machine are
+    then those of its start. The rule may be a version's number; another than 1 or 2 is refused.
+    """
+    files = [File(*file) for file in files]
+    words, places = _file_list(files)
+    journal = _own_journal(files) if journal is None else journal
+    lent = _board(memory, bottom, _lent(c_uint32, journal), _lent(c_uint32, words), places)
+    code, (answer, ran, pairs) = _changing("traverse", lent, machine, [_count(rule, 32)], 3)
+    if rule == Rule.PER_FILE:
+        undone = tuple(file for file in range(len(files)) if answer >> file & 1)
+    else:
+        undone = (answer,) if code == _STOPPED else ()
+    return Traverse(finished=not undone, undone=undone, ran=ran, pairs=pairs)
+
+
 def gate_run(memory, waits, state, clocks, *, bottom=0, resets=()):
     """Does so many clocks of the gate machine; returns the instructions finished, before a
     reset too.
@@ -286,17 +388,19 @@ def image_size(words):
 
 
 def read_image(image, room):
-    """The machine and the memory of an image of at most `room` words."""
+    """The machine and the memory of an image of at most `room` words, and its version's Rule."""
     memory = array("I", bytes(4 * room))
     machine = Machine()
     lent = _apart(_shown(c_uint8, image), _lent(c_uint32, memory))
-    words = _changing("image_read", lent, machine, [], 1)[1][0]
-    return machine, memory[:words]
+    words, version = _changing("image_read", lent, machine, [], 2)[1]
+    return machine, memory[:words], Rule(version)
 
 
-def write_image(memory, machine):
-    """The image of a memory and a machine."""
+def write_image(memory, machine, rule):
+    """The image of a memory and a machine, of the rule's version: that of the image they
+    came from is what read_image returned."""
     shown = _shown(c_uint32, memory)
     out = (c_uint8 * image_size(len(shown)))()
-    _call("image_write", *_apart(shown, _word_array(machine._words()), out, (c_uint64 * 1)()))
+    start = _apart(shown, _word_array(machine._words()))
+    _call("image_write", *start, _count(rule, 32), *_apart(out, (c_uint64 * 1)()))
     return bytes(out)

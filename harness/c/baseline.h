@@ -18,6 +18,10 @@ uint32_t baseline_run(uint32_t *memory, size_t memory_words, uint32_t bottom,
 uint32_t baseline_file_run(uint32_t *memory, size_t memory_words, uint32_t bottom,
                            uint32_t *journal, uint32_t *machine, uint32_t count,
                            uint64_t *result);
+uint32_t baseline_traverse(uint32_t *memory, size_t memory_words, uint32_t bottom,
+                           uint32_t *journal, const uint32_t *words, const uint32_t *files,
+                           size_t files_places, uint32_t *machine, uint32_t version,
+                           uint64_t *result);
 uint32_t baseline_gate_run(uint32_t *memory, size_t memory_words, uint32_t bottom,
                            const uint16_t *waits, size_t waits_entries,
                            const uint64_t *resets, size_t resets_numbers, uint32_t *state,
@@ -25,6 +29,7 @@ uint32_t baseline_gate_run(uint32_t *memory, size_t memory_words, uint32_t botto
 uint32_t baseline_image_read(const uint8_t *bytes, size_t length, uint32_t *memory,
                              uint32_t *machine, uint64_t *result);
 uint32_t baseline_image_write(const uint32_t *memory, size_t memory_words,
-                              const uint32_t *machine, uint8_t *out, uint64_t *result);
+                              const uint32_t *machine, uint32_t version, uint8_t *out,
+                              uint64_t *result);
 
 #endif

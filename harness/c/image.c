@@ -30,9 +30,10 @@ static uint8_t *put_words(const uint32_t *memory, size_t due, uint8_t *at) {
 }
 
 uint32_t baseline_image_write(const uint32_t *memory, size_t memory_words,
-                              const uint32_t *machine, uint8_t *out, uint64_t *result) {
+                              const uint32_t *machine, uint32_t version, uint8_t *out,
+                              uint64_t *result) {
     uint32_t count = (uint32_t)memory_words;
-    *header(out, 1, 1) = 1;
+    *header(out, 1, 1) = (uint8_t)version;
     memcpy(header(out + REGISTERS - 3, 2, 32), machine, 32);
     uint8_t *flags = header(out + FLAGS - 3, 3, 4);
     for (int i = 0; i < 4; i++) flags[i] = (uint8_t)machine[8 + i];
@@ -63,7 +64,8 @@ static const uint8_t *get_words(const uint8_t *at, size_t due, uint32_t *memory)
 uint32_t baseline_image_read(const uint8_t *bytes, size_t length, uint32_t *memory,
                              uint32_t *machine, uint64_t *result) {
     uint32_t words;
-    due_header(bytes, 1, 1);
+    uint8_t version = *due_header(bytes, 1, 1);
+    if (version != 1 && version != 2) abort();
     memcpy(machine, due_header(bytes + REGISTERS - 3, 2, 32), 32);
     const uint8_t *flags = due_header(bytes + FLAGS - 3, 3, 4);
     for (int i = 0; i < 4; i++) machine[8 + i] = flags[i];
@@ -71,5 +73,6 @@ uint32_t baseline_image_read(const uint8_t *bytes, size_t length, uint32_t *memo
     const uint8_t *end = get_words(bytes + WORDS, words, memory);
     if (due_header(end, 0xFF, 0) != bytes + length) abort();
     result[0] = words;
+    result[1] = version;
     return FM8502_DONE;
 }

@@ -170,10 +170,8 @@ INLINE void take_machine(Engine *e, Registers *g, const uint32_t *machine) {
     e->zero = machine[FM8502_ZERO];
 }
 
-// Runs the machine; returns the run's code, and how many instructions ran in *ran.
-INLINE uint32_t go(Engine *e, Registers *g, const uint32_t *machine, uint32_t count,
-                   uint64_t *ran) {
-    take_machine(e, g, machine);
+// Runs on; returns the run's code, and how many instructions ran in *ran.
+INLINE uint32_t go_on(Engine *e, Registers *g, uint32_t count, uint64_t *ran) {
     uint32_t done = 0, code = FM8502_DONE;
     size_t position = e->position;
     while (done < count && (code = step(e, g)) == FM8502_DONE) {
@@ -183,6 +181,13 @@ INLINE uint32_t go(Engine *e, Registers *g, const uint32_t *machine, uint32_t co
     e->position = position; // an instruction that does not run may have taken entries
     *ran = done;
     return code;
+}
+
+// Runs the machine, and returns as go_on does.
+INLINE uint32_t go(Engine *e, Registers *g, const uint32_t *machine, uint32_t count,
+                   uint64_t *ran) {
+    take_machine(e, g, machine);
+    return go_on(e, g, count, ran);
 }
 
 INLINE void give_machine(const Engine *e, const Registers *g, uint32_t *machine) {
@@ -213,6 +218,12 @@ uint32_t baseline_run(uint32_t *memory, size_t memory_words, uint32_t bottom,
     return plain_run(e, machine, count, result);
 }
 
+// Puts the words back that were journaled from the place `from` on, last first.
+INLINE void take_back(Engine *e, size_t from) {
+    for (size_t i = e->filled; i > from; i -= 2)
+        e->memory[e->journal[i - 2]] = e->journal[i - 1];
+}
+
 uint32_t baseline_file_run(uint32_t *memory, size_t memory_words, uint32_t bottom,
                            uint32_t *journal, uint32_t *machine, uint32_t count,
                            uint64_t *result) {
@@ -224,6 +235,51 @@ uint32_t baseline_file_run(uint32_t *memory, size_t memory_words, uint32_t botto
         give_machine(&e, &g, machine);
         return FM8502_DONE;
     }
-    for (size_t i = e.filled; i > 0; i -= 2) memory[journal[i - 2]] = journal[i - 1];
+    take_back(&e, 0);
     return FM8502_STOPPED;
+}
+
+// Lays so many words from an address on; each is journaled as a store is.
+INLINE void lay(Engine *e, uint32_t place, const uint32_t *words, uint32_t count) {
+    uint32_t *cells = e->memory + place, *pairs = e->journal + e->filled;
+    for (uint32_t i = 0; i < count; i++) {
+        pairs[2 * i] = place + i;
+        pairs[2 * i + 1] = cells[i];
+        cells[i] = words[i];
+    }
+    e->filled += 2 * (size_t)count;
+}
+
+// A file: place, number of words, entry, instruction count.
+enum { PLACE = 0, WORDS = 1, ENTRY = 2, INSTRUCTIONS = 3, FILE_SIZE = 4 };
+
+uint32_t baseline_traverse(uint32_t *memory, size_t memory_words, uint32_t bottom,
+                           uint32_t *journal, const uint32_t *words, const uint32_t *files,
+                           size_t files_places, uint32_t *machine, uint32_t version,
+                           uint64_t *result) {
+    Engine e = {.memory = memory, .words = memory_words, .bottom = bottom, .journal = journal};
+    Registers g;
+    uint64_t undone = 0;
+    take_machine(&e, &g, machine);
+    result[1] = 0;
+    for (size_t i = 0; i < files_places / FILE_SIZE; i++) {
+        const uint32_t *file = files + FILE_SIZE * i;
+        uint32_t before[FM8502_MACHINE_SIZE];
+        size_t filled = e.filled;
+        give_machine(&e, &g, before);
+        lay(&e, file[PLACE], words, file[WORDS]);
+        words += file[WORDS];
+        g.r[0] = file[ENTRY];
+        if (go_on(&e, &g, file[INSTRUCTIONS], &result[1]) == FM8502_DONE) continue;
+        take_back(&e, version == 2 ? 0 : filled);
+        result[0] = i;
+        result[2] = e.filled / 2;
+        if (version == 2) return FM8502_STOPPED;
+        take_machine(&e, &g, before);
+        undone |= (uint64_t)1 << i;
+    }
+    give_machine(&e, &g, machine);
+    result[0] = undone;
+    result[2] = e.filled / 2;
+    return FM8502_DONE;
 }

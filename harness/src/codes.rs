@@ -1,7 +1,7 @@
 //! The reference emulator's answers as the library's codes.
 
 use fm8502::library::{DONE, HALTED, STOPPED};
-use reference::{Answer, FileAnswer, Refusal, Stop};
+use reference::{Answer, FileAnswer, Refusal, Stop, TraverseAnswer};
 
 pub fn refused(refusal: Refusal) -> u32 {
     u32::from(refusal.number())
@@ -26,5 +26,22 @@ pub fn of_file_run(answer: FileAnswer) -> u32 {
         FileAnswer::Finished => DONE,
         FileAnswer::Undone => STOPPED,
         FileAnswer::Refused(refusal) => refused(refusal),
+    }
+}
+
+pub fn of_traverse(answer: TraverseAnswer) -> u32 {
+    match answer {
+        TraverseAnswer::Marked(_) | TraverseAnswer::Finished => DONE,
+        TraverseAnswer::TakenBack(_) => STOPPED,
+        TraverseAnswer::Refused(refusal) => refused(refusal),
+    }
+}
+
+/// The first result of a traverse: which files were undone, or which file was.
+pub fn undone(answer: TraverseAnswer) -> u64 {
+    match answer {
+        TraverseAnswer::Marked(undone) => undone,
+        TraverseAnswer::TakenBack(file) => u64::from(file),
+        TraverseAnswer::Finished | TraverseAnswer::Refused(_) => 0,
     }
 }

@@ -1,9 +1,12 @@
 //! What the examples of the bindings print, by the reference emulator.
 
+pub mod line;
 mod restart;
 
 use crate::text::hex_words;
-use reference::{file_run, gate_run, image, run};
+use line::FileWords;
+use reference::image::{self, ReadResult};
+use reference::{file_run, gate_run, run};
 use reference::{Answer, FileAnswer, FileResult, GateResult, GateState, Machine, RunResult, Stop};
 use std::ops::Range;
 
@@ -23,10 +26,11 @@ pub struct Images {
     pub halted: Vec<u8>,
     pub loader: Vec<u8>,
     pub restart: Vec<u8>,
+    pub line: Vec<u8>,
 }
 
-/// The text for the images and the wait list.
-pub fn text(images: &Images, waits: &[u16]) -> String {
+/// The text for the images, the wait list, and the files of the last image.
+pub fn text(images: &Images, waits: &[u16], files: &[FileWords]) -> String {
     let (memory, machine) = load(&images.stacking);
     let mut text = format!("stacking.image: {} words\n", memory.len());
     text += &stacked(memory, waits, machine);
@@ -41,15 +45,21 @@ pub fn text(images: &Images, waits: &[u16]) -> String {
     text += &holds_a_loader(&memory, waits, machine);
     let (memory, machine) = load(&images.restart);
     text += &format!("restart.image: {} words\n", memory.len());
-    text + &restart::restarted(&memory, waits, machine)
+    text += &restart::restarted(&memory, waits, machine);
+    text + &line::traversed(&images.line, files)
 }
 
 fn load(bytes: &[u8]) -> (Vec<u32>, Machine) {
+    let (memory, loaded) = load_with_version(bytes);
+    (memory, loaded.machine)
+}
+
+fn load_with_version(bytes: &[u8]) -> (Vec<u32>, ReadResult) {
     let mut memory = vec![0; 4_096];
     let loaded = image::read(bytes, &mut memory);
     assert_eq!(loaded.answer, Ok(()), "a good image");
     memory.truncate(loaded.words as usize);
-    (memory, loaded.machine)
+    (memory, loaded)
 }
 
 fn stacked(mut memory: Vec<u32>, waits: &[u16], start: Machine) -> String {

@@ -1,8 +1,8 @@
-//! The machine, the gate state and instructions as the words that the library takes.
+//! The machine, the gate state, instructions and files as the words that the library takes.
 
 use crate::case_words::latch_words;
-use fm8502::library::{MACHINE_SIZE, STATE_SIZE};
-use reference::{Flags, GateState, Instruction, Machine, Operand};
+use fm8502::library::{FILE_SIZE, MACHINE_SIZE, STATE_SIZE};
+use reference::{File, Flags, GateState, Instruction, Machine, Operand};
 
 /// r0 to r7, C, V, N, Z.
 pub fn machine_words(machine: &Machine) -> [u32; MACHINE_SIZE] {
@@ -46,6 +46,23 @@ pub fn state_of(words: &[u32]) -> GateState {
         begun: words[19] != 0,
         left: words[20] as u16,
     }
+}
+
+/// Place, number of words, entry, instruction count, file by file.
+pub fn file_words(files: &[File]) -> Vec<u32> {
+    let words = |file: &File| [file.place, file.words, file.entry, file.count];
+    files.iter().flat_map(words).collect()
+}
+
+/// The inverse of [`file_words`].
+pub fn files_of(words: &[u32]) -> Vec<File> {
+    let file = |words: &[u32]| File {
+        place: words[0],
+        words: words[1],
+        entry: words[2],
+        count: words[3],
+    };
+    words.chunks_exact(FILE_SIZE).map(file).collect()
 }
 
 /// Operation `operation` on the operands, with permits for C, V, N, Z.

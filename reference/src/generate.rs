@@ -9,6 +9,8 @@ pub mod position;
 pub mod program;
 pub mod resets;
 pub mod state;
+pub mod traverse;
+pub mod traverse_faults;
 
 use crate::machine::Flags;
 use crate::rng::Rng;

@@ -1,7 +1,7 @@
 //! Writing and reading images.
 
 use crate::machine::{Flags, Machine};
-use crate::refusal::{check_memory, Refusal, MOST_WORDS};
+use crate::refusal::{check_memory, check_version, Refusal, MOST_WORDS};
 
 /// Words in a full tag-05 field.
 pub(crate) const WORDS_PER_FIELD: usize = 1_024;
@@ -12,22 +12,28 @@ const TAG_FLAGS: u8 = 0x03;
 const TAG_COUNT: u8 = 0x04;
 const TAG_WORDS: u8 = 0x05;
 const TAG_END: u8 = 0xFF;
-const VERSION: u8 = 1;
 
 /// Bytes of the image of a memory of `words` words.
 pub fn image_size(words: usize) -> usize {
     56 + 4 * words + 3 * words.div_ceil(WORDS_PER_FIELD)
 }
 
-/// Writes the image at the head of `output` and returns its size.
-pub fn write(machine: &Machine, memory: &[u32], output: &mut [u8]) -> Result<usize, Refusal> {
+/// Writes the image of this version, 1 or 2 (CR 1), at the head of `output` and returns
+/// its size.
+pub fn write(
+    machine: &Machine,
+    memory: &[u32],
+    version: u32,
+    output: &mut [u8],
+) -> Result<usize, Refusal> {
     check_memory(memory.len())?;
     let size = image_size(memory.len());
     if output.len() < size {
         return Err(Refusal::ShortOutput);
     }
+    check_version(version)?;
     let mut writer = Writer { output, at: 0 };
-    writer.field(TAG_VERSION, 1, [VERSION]);
+    writer.field(TAG_VERSION, 1, [version as u8]);
     writer.field(TAG_REGISTERS, 32, little_endian(&machine.registers));
     writer.field(TAG_FLAGS, 4, machine.flags.to_array().map(u8::from));
     writer.field(TAG_COUNT, 4, (memory.len() as u32).to_le_bytes());
@@ -39,10 +45,10 @@ pub fn write(machine: &Machine, memory: &[u32], output: &mut [u8]) -> Result<usi
 }
 
 /// [`write`] into a buffer of just the right size.
-pub fn to_bytes(machine: &Machine, memory: &[u32]) -> Result<Vec<u8>, Refusal> {
+pub fn to_bytes(machine: &Machine, memory: &[u32], version: u32) -> Result<Vec<u8>, Refusal> {
     check_memory(memory.len())?;
     let mut output = vec![0; image_size(memory.len())];
-    write(machine, memory, &mut output)?;
+    write(machine, memory, version, &mut output)?;
     Ok(output)
 }
 
@@ -73,6 +79,8 @@ pub struct ReadResult {
     pub machine: Machine,
     /// M, the words put at the head of the lent memory.
     pub words: u32,
+    /// 1 or 2.
+    pub version: u32,
 }
 
 /// Loads an image. A refused one leaves `memory` as it was.
@@ -84,18 +92,21 @@ pub fn read(image: &[u8], memory: &mut [u32]) -> ReadResult {
                 answer: Ok(()),
                 machine: contents.machine,
                 words: contents.words as u32,
+                version: contents.version,
             }
         }
         Err(refusal) => ReadResult {
             answer: Err(refusal),
             machine: Machine::default(),
             words: 0,
+            version: 0,
         },
     }
 }
 
 /// A whole image found good, its words still in their fields.
 struct Contents<'a> {
+    version: u32,
     machine: Machine,
     words: usize,
     /// From the first tag-05 field on.
@@ -116,9 +127,8 @@ impl Contents<'_> {
 /// Checks the whole image before anything is changed.
 fn parse(image: &[u8], lent: usize) -> Result<Contents<'_>, Refusal> {
     let mut reader = Reader { rest: image };
-    if reader.field(TAG_VERSION, 1)? != [VERSION] {
-        return Err(Refusal::WrongVersion);
-    }
+    let version = u32::from(reader.field(TAG_VERSION, 1)?[0]);
+    check_version(version)?;
     let machine = Machine {
         registers: registers(reader.field(TAG_REGISTERS, 32)?),
         flags: flags(reader.field(TAG_FLAGS, 4)?)?,
@@ -131,6 +141,7 @@ fn parse(image: &[u8], lent: usize) -> Result<Contents<'_>, Refusal> {
         return Err(Refusal::TrailingBytes);
     }
     Ok(Contents {
+        version,
         machine,
         words,
         fields,

@@ -20,6 +20,7 @@ pub mod machine;
 pub mod meaning;
 pub mod refusal;
 pub mod rng;
+pub mod traverse;
 pub mod vectors;
 
 pub use file_run::{file_run, FileAnswer, FileResult};
@@ -28,3 +29,4 @@ pub use instruction::{is_instruction, Instruction, Operand, HALTING_BITS};
 pub use interpreter::{run, step, Answer, RunResult, Step, Stop};
 pub use machine::{Flags, Machine};
 pub use refusal::Refusal;
+pub use traverse::{traverse, File, TraverseAnswer, TraverseResult};

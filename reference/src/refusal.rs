@@ -16,17 +16,25 @@ pub enum Refusal {
     LongWaitList = 3,
     /// Also of a run's list position (CR 7).
     BadGateState = 4,
+    /// Of a traverse, words and instructions (CR 1).
     TooManyInstructions = 5,
     ShortJournal = 6,
     ShortOutput = 7,
     CutImage = 8,
     WrongTag = 9,
     WrongLength = 10,
+    /// Neither 1 nor 2: of an image, and of a caller's number (CR 1).
     WrongVersion = 11,
     BadFlag = 12,
     BadWordCount = 13,
     ShortMemory = 14,
     TrailingBytes = 15,
+    TooManyFiles = 16,
+    /// A file's place plus words exceeds the memory (CR 1), or one of its words would lie
+    /// below the bottom (CR 6).
+    FileMisplaced = 17,
+    /// The files' words do not add up to the one list they lie in (CR 1).
+    WordsMismatched = 18,
     /// The bottom exceeds the memory's length (CR 6).
     BottomTooHigh = 21,
     /// The reset list does not rise strictly (CR 7).
@@ -61,6 +69,14 @@ pub(crate) fn check_memory_and_bottom(words: usize, bottom: u32) -> Result<(), R
         return Err(Refusal::BottomTooHigh);
     }
     Ok(())
+}
+
+/// Reason 11 as of a caller's number (CR 1).
+pub(crate) fn check_version(version: u32) -> Result<(), Refusal> {
+    match version {
+        1 | 2 => Ok(()),
+        _ => Err(Refusal::WrongVersion),
+    }
 }
 
 /// Reason 3, checked after the memory and its bottom.

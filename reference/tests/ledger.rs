@@ -17,7 +17,7 @@ outside 2 18
 ";
 
 fn example_image() -> Vec<u8> {
-    to_bytes(&Machine::default(), &[0x0001_0021, 0x0005_0421]).unwrap()
+    to_bytes(&Machine::default(), &[0x0001_0021, 0x0005_0421], 1).unwrap()
 }
 
 /// What the program prints for these bytes on standard input.
@@ -43,13 +43,13 @@ fn the_example_to_the_byte() {
 #[test]
 fn sixteen_instructions_at_most() {
     // The word 0 moves r0 to itself and so goes on to the next address.
-    let image = to_bytes(&Machine::default(), &[0; 20]).unwrap();
+    let image = to_bytes(&Machine::default(), &[0; 20], 1).unwrap();
     let text = ledger(&image);
     let lines: Vec<&str> = text.lines().collect();
     assert_eq!(lines.len(), 18);
     assert_eq!(lines[16], "16 0000000F 00000000 9 0000");
     assert_eq!(lines[17], "finished 16 144");
-    let sixteen = to_bytes(&Machine::default(), &[0; 16]).unwrap();
+    let sixteen = to_bytes(&Machine::default(), &[0; 16], 1).unwrap();
     assert_eq!(ledger(&sixteen), text);
 }
 
@@ -57,7 +57,7 @@ fn sixteen_instructions_at_most() {
 fn the_word_is_the_one_that_ran() {
     // r1 to the word r0 points at after the fetch, then the word so stored.
     let start = machine(&[(1, 0x0000_3C41)], "1100");
-    let image = to_bytes(&start, &[0x0000_0101, 0xDEAD_BEEF]).unwrap();
+    let image = to_bytes(&start, &[0x0000_0101, 0xDEAD_BEEF], 1).unwrap();
     let due = "step pc word clocks cvnz\n\
                1 00000000 00000101 10 1100\n\
                2 00000001 00003C41 9 0000\n\
@@ -67,14 +67,14 @@ fn the_word_is_the_one_that_ran() {
 
 #[test]
 fn outside_at_once() {
-    let image = to_bytes(&machine(&[(0, 0xABCD)], "0000"), &[5]).unwrap();
+    let image = to_bytes(&machine(&[(0, 0xABCD)], "0000"), &[5], 1).unwrap();
     assert_eq!(ledger(&image), "step pc word clocks cvnz\noutside 0 0\n");
 }
 
 /// The run has the image's own words, not the 4,096 that are lent.
 #[test]
 fn memory_ends_with_the_image() {
-    let image = to_bytes(&Machine::default(), &[0]).unwrap();
+    let image = to_bytes(&Machine::default(), &[0], 1).unwrap();
     assert!(ledger(&image).ends_with("\noutside 1 9\n"));
 }
 
@@ -85,19 +85,30 @@ fn bad_images() {
     assert_eq!(program(&image[..image.len() - 1]), "refused 8\n");
     assert_eq!(program(&[image.as_slice(), &[0]].concat()), "refused 15\n");
     let mut version = image;
-    version[3] = 2;
-    assert_eq!(program(&version), "refused 11\n");
+    for number in [0, 3, 255] {
+        version[3] = number;
+        assert_eq!(program(&version), "refused 11\n");
+    }
+}
+
+/// The ledger has no files, so that the rules of both versions come to the same (CR 1).
+#[test]
+fn either_version() {
+    let mut image = example_image();
+    image[3] = 2;
+    assert_eq!(ledger(&image), EXAMPLE);
+    assert_eq!(program(&image), EXAMPLE);
 }
 
 #[test]
 fn the_largest_image_and_what_is_beyond() {
-    let mut largest = to_bytes(&Machine::default(), &[0; 4_096]).unwrap();
+    let mut largest = to_bytes(&Machine::default(), &[0; 4_096], 1).unwrap();
     assert_eq!(largest.len(), 16_452);
     assert!(program(&largest).ends_with("\nfinished 16 144\n"));
     largest.push(0);
     assert_eq!(program(&largest), "refused 15\n");
     largest.extend([0; 100_000]);
     assert_eq!(program(&largest), "refused 15\n");
-    let beyond = to_bytes(&Machine::default(), &[0; 4_097]).unwrap();
+    let beyond = to_bytes(&Machine::default(), &[0; 4_097], 1).unwrap();
     assert_eq!(program(&beyond), "refused 14\n");
 }

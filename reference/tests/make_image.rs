@@ -32,7 +32,7 @@ fn complaint(arguments: &[&str]) -> String {
 fn words_to_standard_output() {
     let output = make_image(&["00010021", "50421"]);
     assert!(output.status.success());
-    let due = to_bytes(&Machine::default(), &[0x0001_0021, 0x0005_0421]).unwrap();
+    let due = to_bytes(&Machine::default(), &[0x0001_0021, 0x0005_0421], 1).unwrap();
     assert_eq!(output.stdout, due);
 }
 
@@ -53,6 +53,8 @@ fn registers_flags_length_and_files() {
         "58",
         "--memory",
         "6",
+        "--version",
+        "2",
         "--output",
         target.to_str().unwrap(),
     ];
@@ -61,9 +63,21 @@ fn registers_flags_length_and_files() {
     let mut memory = [9; 7];
     let result = read(&fs::read(&target).unwrap(), &mut memory);
     assert_eq!((result.answer, result.words), (Ok(()), 6));
+    assert_eq!(result.version, 2);
     let due = machine(&[(1, 0xFFFF_FFFF), (7, 0x2A)], "1001");
     assert_eq!(result.machine, due);
     assert_eq!(memory, [0x0001_3C21, 0, 0xFFFF_FFFF, 0x58, 0, 0, 9]);
+}
+
+/// The default is 1, and the version is all that differs.
+#[test]
+fn versions() {
+    let image = |arguments: &[&str]| make_image(arguments).stdout;
+    let first = image(&["50421"]);
+    assert_eq!(image(&["--version", "1", "50421"]), first);
+    let mut due = first;
+    due[3] = 2;
+    assert_eq!(image(&["50421", "--version", "2"]), due);
 }
 
 #[test]
@@ -80,7 +94,7 @@ fn complaints_name_what_is_wrong() {
     let source = temporary("bad.txt");
     fs::write(&source, "0 1\n2 xyz\n").unwrap();
     let source = source.to_str().unwrap();
-    let cases: [(&[&str], &str); 13] = [
+    let cases: [(&[&str], &str); 16] = [
         (&[], "no words given"),
         (&["12G4"], "'12G4' is not 1 to 8 hexadecimal digits"),
         (&["123456789"], "'123456789' is not 1 to 8"),
@@ -92,6 +106,9 @@ fn complaints_name_what_is_wrong() {
         (&["0", "-f", "012"], "flags '012' are not four digits"),
         (&["0", "-f", "0120"], "flags '0120' are not four digits"),
         (&["0", "-m", "0"], "memory '0' is not a number from 1"),
+        (&["0", "--version", "0"], "version '0' is neither 1 nor 2"),
+        (&["0", "--version", "3"], "version '3' is neither 1 nor 2"),
+        (&["0", "--version"], "--version needs a value"),
         (&["0", "1", "-m", "1"], "2 words do not fit a memory of 1"),
         (&["-w", source], "line 2: 'xyz' is not 1 to 8"),
     ];

@@ -173,7 +173,7 @@ fn a_file_run_is_undone() {
 #[test]
 fn the_ledger_ends_with_halted() {
     for word in halting_words() {
-        let text = |memory: &[u32]| ledger(&to_bytes(&Machine::default(), memory).unwrap());
+        let text = |memory: &[u32]| ledger(&to_bytes(&Machine::default(), memory, 1).unwrap());
         let due = "step pc word clocks cvnz\n\
                    1 00000000 00010021 9 0000\n\
                    2 00000001 00050421 9 0001\n\

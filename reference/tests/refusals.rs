@@ -77,11 +77,14 @@ fn numbers_are_those_of_the_papers() {
         Refusal::BadWordCount,
         Refusal::ShortMemory,
         Refusal::TrailingBytes,
+        Refusal::TooManyFiles,
+        Refusal::FileMisplaced,
+        Refusal::WordsMismatched,
         Refusal::BottomTooHigh,
         Refusal::ResetsNotRising,
     ];
     let numbers: Vec<u8> = all.iter().map(|refusal| refusal.number()).collect();
-    let due: Vec<u8> = (1..=15).chain([21, 22]).collect();
+    let due: Vec<u8> = (1..=18).chain([21, 22]).collect();
     assert_eq!(numbers, due);
 }
 
@@ -231,19 +234,24 @@ fn file_runs() {
 
 #[test]
 fn image_writer() {
-    let refusal = |memory: &[u32], output: &mut [u8]| {
+    let refusal = |memory: &[u32], version, output: &mut [u8]| {
         let former = output.to_vec();
-        let refusal = write(&start(), memory, output).err();
+        let refusal = write(&start(), memory, version, output).err();
         assert!(refusal.is_none() || output == former);
         refusal.map(Refusal::number)
     };
-    assert_eq!(refusal(&[], &mut []), Some(1));
     let long = zeros(TOO_LONG);
-    assert_eq!(refusal(&long, &mut []), Some(2));
-    assert_eq!(refusal(&long[1..], &mut []), Some(7));
-    assert_eq!(refusal(&[7], &mut [9; 62]), Some(7));
-    assert_eq!(refusal(&[7], &mut [9; 63]), None);
-    assert_eq!(refusal(&[7; 1_025], &mut vec![9; 4_161]), Some(7));
+    // A bad version is the last of the reasons (CR 1).
+    for (version, last) in [(1, None), (2, None), (0, Some(11)), (3, Some(11))] {
+        assert_eq!(refusal(&[], version, &mut []), Some(1));
+        assert_eq!(refusal(&long, version, &mut []), Some(2));
+        assert_eq!(refusal(&long[1..], version, &mut []), Some(7));
+        assert_eq!(refusal(&[7], version, &mut [9; 62]), Some(7));
+        assert_eq!(refusal(&[7], version, &mut [9; 63]), last);
+        assert_eq!(refusal(&[7], version, &mut [9; 70]), last);
+        let mut short = vec![9; 4_161];
+        assert_eq!(refusal(&[7; 1_025], version, &mut short), Some(7));
+    }
     assert_eq!(image_size(1_025), 4_162);
 }
 
@@ -252,14 +260,15 @@ fn read_refusal(image: &[u8], lent: usize) -> Option<u8> {
     let mut memory = vec![0xABCD_EF01; lent];
     let result = read(image, &mut memory);
     let refusal = result.answer.err()?;
-    assert_eq!((result.machine, result.words), (Machine::default(), 0));
+    let nothing = (result.machine, result.words, result.version);
+    assert_eq!(nothing, (Machine::default(), 0, 0));
     assert!(memory.iter().all(|&word| word == 0xABCD_EF01));
     Some(refusal.number())
 }
 
 /// The image of two words with the bytes from `at` on replaced.
 fn changed(at: usize, bytes: &[u8]) -> Vec<u8> {
-    let mut image = to_bytes(&start(), &[0x11, 0x22]).unwrap();
+    let mut image = to_bytes(&start(), &[0x11, 0x22], 1).unwrap();
     image[at..at + bytes.len()].copy_from_slice(bytes);
     image
 }
@@ -272,8 +281,14 @@ fn image_reader_numbers() {
         assert_eq!(read_refusal(&changed(header + 1, &[0x77]), 2), Some(10));
         assert_eq!(read_refusal(&changed(header + 2, &[0x77]), 2), Some(10));
     }
-    assert_eq!(read_refusal(&changed(3, &[0]), 2), Some(11));
-    assert_eq!(read_refusal(&changed(3, &[2]), 2), Some(11));
+    for version in 0..=255 {
+        let due = if [1, 2].contains(&version) {
+            None
+        } else {
+            Some(11)
+        };
+        assert_eq!(read_refusal(&changed(3, &[version]), 2), due);
+    }
     for flag in 42..46 {
         assert_eq!(read_refusal(&changed(flag, &[2]), 2), Some(12));
         assert_eq!(read_refusal(&changed(flag, &[255]), 2), Some(12));
@@ -297,8 +312,9 @@ fn image_reader_order() {
     assert_eq!(read_refusal(&[0x99, 9, 9], 2), Some(9));
     assert_eq!(read_refusal(&[1, 9, 0], 2), Some(10));
     assert_eq!(read_refusal(&[1, 1, 0], 2), Some(8));
-    assert_eq!(read_refusal(&[1, 1, 0, 2], 2), Some(11));
+    assert_eq!(read_refusal(&[1, 1, 0, 3], 2), Some(11));
     assert_eq!(read_refusal(&[1, 1, 0, 1], 2), Some(8));
+    assert_eq!(read_refusal(&[1, 1, 0, 2], 2), Some(8));
     // A bad flag is found only once the whole value is there.
     let bad_flag = changed(42, &[2]);
     assert_eq!(read_refusal(&bad_flag[..45], 2), Some(8));
@@ -311,7 +327,7 @@ fn image_reader_order() {
     assert_eq!(read_refusal(&huge, 0), Some(13));
     // An earlier field comes first, whatever the number.
     let mut both = changed(0, &[]);
-    both[3] = 2;
+    both[3] = 3;
     both[39] = 0x77;
     assert_eq!(read_refusal(&both, 2), Some(11));
     both.push(0);

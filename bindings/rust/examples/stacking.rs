@@ -1,10 +1,14 @@
 //! Stacks the traces of an image under a wait list, rolls a file back, runs into a word
 //! that is no instruction, stores into a loader on a board that holds it, and on one that
-//! does not, and restarts a drifted sledge by its reset line.
+//! does not, restarts a drifted sledge by its reset line, and runs the files of a line as a
+//! traverse under either rule.
 //! Usage: `stacking FOLDER`, the folder of the example images.
 
-use fm8502::{file_run, gate_run, read_image, run};
-use fm8502::{FileRun, Flags, GateState, Machine, Refused, Run};
+use fm8502::library::{self, FILE_SIZE, MACHINE_SIZE};
+use fm8502::{
+    file_run, gate_run, image_size, journal_places, read_image, run, traverse, write_image,
+};
+use fm8502::{File, FileRun, Flags, GateState, Machine, Refused, Rule, Run, Traverse, Undone};
 use std::path::{Path, PathBuf};
 use std::{env, fs, io};
 
@@ -18,20 +22,26 @@ const RESET: u64 = 1000;
 /// Of the instructions after it.
 const FIRST_PART: u32 = 40;
 const RESTARTED_ACCUMULATORS: std::ops::Range<usize> = 0x14..0x18;
+/// Of line.image.
+const FILE_COUNT: usize = 0x0B;
+const PROFILE: std::ops::Range<usize> = 0x0C..0x0F;
 
 fn main() -> io::Result<()> {
     let folder = PathBuf::from(env::args().nth(1).unwrap_or("examples".into()));
     let waits = load_waits(&folder.join("stacking.waits"))?;
-    let (mut memory, machine) = load(&folder, "stacking.image")?;
+    let (mut memory, machine, _) = load(&folder, "stacking.image")?;
     stack(&mut memory, &waits, machine).map_err(io::Error::other)?;
-    let (mut memory, machine) = load(&folder, "outside.image")?;
+    let (mut memory, machine, _) = load(&folder, "outside.image")?;
     roll_back(&mut memory, machine).map_err(io::Error::other)?;
-    let (mut memory, machine) = load(&folder, "halted.image")?;
+    let (mut memory, machine, _) = load(&folder, "halted.image")?;
     halt(&mut memory, &waits, machine).map_err(io::Error::other)?;
-    let (mut memory, machine) = load(&folder, "loader.image")?;
+    let (mut memory, machine, _) = load(&folder, "loader.image")?;
     store_into_loader(&mut memory, &waits, machine).map_err(io::Error::other)?;
-    let (memory, machine) = load(&folder, "restart.image")?;
-    restart(&memory, &waits, machine).map_err(io::Error::other)
+    let (memory, machine, _) = load(&folder, "restart.image")?;
+    restart(&memory, &waits, machine).map_err(io::Error::other)?;
+    let (memory, machine, rule) = load(&folder, "line.image")?;
+    let lines = load_lines(&folder.join("line.files"))?;
+    run_line(&memory, machine, rule, &lines).map_err(io::Error::other)
 }
 
 fn load_waits(path: &Path) -> io::Result<Vec<u16>> {
@@ -42,13 +52,25 @@ fn load_waits(path: &Path) -> io::Result<Vec<u16>> {
         .map_err(|error| io::Error::other(format!("{}: {error}", path.display())))
 }
 
-fn load(folder: &Path, name: &str) -> io::Result<(Vec<u32>, Machine)> {
+fn load(folder: &Path, name: &str) -> io::Result<(Vec<u32>, Machine, Rule)> {
     let bytes = fs::read(folder.join(name))?;
     let mut memory = vec![0; 4_096];
-    let (machine, words) = read_image(&bytes, &mut memory).map_err(io::Error::other)?;
+    let (machine, words, rule) = read_image(&bytes, &mut memory).map_err(io::Error::other)?;
     memory.truncate(words);
     println!("{name}: {words} words");
-    Ok((memory, machine))
+    Ok((memory, machine, rule))
+}
+
+/// A file on each line: place, number of words, entry, instruction count, and its words.
+fn load_lines(path: &Path) -> io::Result<Vec<Vec<u32>>> {
+    let text = fs::read_to_string(path)?;
+    let number = |digits| u32::from_str_radix(digits, 16);
+    let lines = text
+        .lines()
+        .map(|line| line.split_whitespace().map(number).collect());
+    lines
+        .collect::<Result<_, _>>()
+        .map_err(|error| io::Error::other(format!("{}: {error}", path.display())))
 }
 
 fn stack(memory: &mut [u32], waits: &[u16], start: Machine) -> Result<(), Refused> {
@@ -215,6 +237,99 @@ fn refuse_resets(memory: &[u32], waits: &[u16], start: Machine) {
     if let Err(Refused(number)) = ran {
         println!("resets {RESET} {RESET}: refused {number}");
     }
+}
+
+fn run_line(memory: &[u32], start: Machine, rule: Rule, lines: &[Vec<u32>]) -> Result<(), Refused> {
+    println!("version {}", u32::from(rule));
+    rewrite(memory, start)?;
+    take_back(memory, start, lines)?;
+    refuse_version(memory, start, lines);
+    Ok(())
+}
+
+fn rewrite(memory: &[u32], machine: Machine) -> Result<(), Refused> {
+    let mut image = vec![0; image_size(memory.len())];
+    let size = write_image(memory, &machine, Rule::PerFile, &mut image)?;
+    let (_, _, rule) = read_image(&image[..size], &mut memory.to_vec())?;
+    let version = u32::from(rule);
+    println!("written as version 1: {size} bytes, read again as version {version}");
+    Ok(())
+}
+
+/// One file of the line is undone: by rule 1 that file is taken back, by rule 2 the line.
+fn take_back(memory: &[u32], start: Machine, lines: &[Vec<u32>]) -> Result<(), Refused> {
+    let files: Vec<File> = lines.iter().map(|line| file(line)).collect();
+    let (ran, by_file, machine) = run_files(memory, start, &files, Rule::PerFile)?;
+    print_undone(ran);
+    let (ran, whole, former) = run_files(memory, start, &files, Rule::PerTraverse)?;
+    print_undone(ran);
+    println!("profile, file by file: rule 1, rule 2");
+    for (number, point) in PROFILE.enumerate() {
+        println!("{number}{}", words(&[by_file[point], whole[point]]));
+    }
+    println!(
+        "files stacked {} {}",
+        by_file[FILE_COUNT], whole[FILE_COUNT]
+    );
+
+    let two = [files[0], files[2]];
+    let (_, left, end) = run_files(memory, start, &two, Rule::PerFile)?;
+    let same = yes_or_no(left == by_file && end == machine);
+    println!("rule 1 as files 0 and 2 alone: {same}");
+    let same = yes_or_no(whole == memory && former == start);
+    println!("rule 2 as before: {same}");
+    Ok(())
+}
+
+fn file(line: &[u32]) -> File<'_> {
+    File {
+        place: line[0],
+        words: &line[FILE_SIZE..][..line[1] as usize],
+        entry: line[2],
+        count: line[3],
+    }
+}
+
+/// On a copy: the answer, and the memory and machine that are left.
+fn run_files(
+    memory: &[u32],
+    start: Machine,
+    files: &[File],
+    rule: Rule,
+) -> Result<(Traverse, Vec<u32>, Machine), Refused> {
+    let (mut left, mut machine) = (memory.to_vec(), start);
+    let mut journal = vec![0; journal_places(files)];
+    let ran = traverse(&mut left, 0, &mut journal, files, &mut machine, rule)?;
+    Ok((ran, left, machine))
+}
+
+fn print_undone(ran: Traverse) {
+    match ran.undone {
+        Undone::Files(bits) => print!("rule 1: undone {bits:016X}"),
+        Undone::Traverse(Some(file)) => print!("rule 2: undone in file {file}"),
+        Undone::Traverse(None) => print!("rule 2: finished"),
+    }
+    println!(", {} instructions, {} pairs", ran.ran, ran.pairs);
+}
+
+/// The call on plain words takes any version.
+fn refuse_version(memory: &[u32], start: Machine, lines: &[Vec<u32>]) {
+    let mut machine = [0; MACHINE_SIZE];
+    machine[..8].copy_from_slice(&start.registers);
+    let files: Vec<File> = lines.iter().map(|line| file(line)).collect();
+    let numbers = lines.iter().flat_map(|line| &line[..FILE_SIZE]);
+    let words = files.iter().flat_map(|file| file.words);
+    let number = library::traverse(
+        &mut memory.to_vec(),
+        0,
+        &mut vec![0; journal_places(&files)],
+        &words.copied().collect::<Vec<_>>(),
+        &numbers.copied().collect::<Vec<_>>(),
+        &mut machine,
+        3,
+        &mut [0; 3],
+    );
+    println!("version 3: refused {number}");
 }
 
 fn yes_or_no(answer: bool) -> &'static str {

@@ -10,9 +10,13 @@
 
 pub mod library;
 mod refused;
+mod rule;
+mod traverse;
 mod words;
 
 pub use refused::Refused;
+pub use rule::Rule;
+pub use traverse::{journal_places, traverse, File, Traverse, Undone};
 use words::MACHINE_SIZE;
 pub use words::{Flags, GateState, Machine};
 
@@ -163,13 +167,14 @@ pub fn clock(
     Ok(result[0] == 1)
 }
 
-/// Loads an image into the front of `memory`; returns its machine and how many
-/// words it has.
-pub fn read_image(image: &[u8], memory: &mut [u32]) -> Result<(Machine, usize), Refused> {
+/// Loads an image into the front of `memory`; returns its machine, how many words it
+/// has, and the rule that its version stands for.
+pub fn read_image(image: &[u8], memory: &mut [u32]) -> Result<(Machine, usize, Rule), Refused> {
     let mut words = [0; MACHINE_SIZE];
-    let mut result = [0u64; 1];
+    let mut result = [0u64; 2];
     carried_out(library::image_read(image, memory, &mut words, &mut result))?;
-    Ok((Machine::from_words(&words), result[0] as usize))
+    let rule = Rule::try_from(result[1] as u32)?;
+    Ok((Machine::from_words(&words), result[0] as usize, rule))
 }
 
 /// The size of the image of a memory of so many words.
@@ -177,13 +182,19 @@ pub fn image_size(words: usize) -> usize {
     56 + 4 * words + 3 * words.div_ceil(1024)
 }
 
-/// Writes the image of a machine and a memory to the front of `out`; returns
-/// its size.
-pub fn write_image(memory: &[u32], machine: &Machine, out: &mut [u8]) -> Result<usize, Refused> {
+/// Writes the image of a machine and a memory, of the rule's version, to the front of
+/// `out`; returns its size.
+pub fn write_image(
+    memory: &[u32],
+    machine: &Machine,
+    rule: Rule,
+    out: &mut [u8],
+) -> Result<usize, Refused> {
     let mut result = [0u64; 1];
     carried_out(library::image_write(
         memory,
         &machine.to_words(),
+        rule.into(),
         out,
         &mut result,
     ))?;

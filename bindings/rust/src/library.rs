@@ -6,15 +6,17 @@
 //! A code that has no name here is the papers' refusal. After it and after
 //! [`MISFIT`] everything lent is as it was.
 
+pub use crate::traverse::FILE_SIZE;
 pub use crate::words::{MACHINE_SIZE, STATE_SIZE};
 
 /// Carried out.
 pub const DONE: u32 = 0;
-/// Carried out, and stopped at a missing word; of a file run, undone.
+/// Carried out, and stopped at a missing word; of a file run, or a traverse under
+/// rule 2, undone.
 pub const STOPPED: u32 = 100;
 /// Carried out, and stopped at a word that is no instruction; [`run`] alone.
 pub const HALTED: u32 = 101;
-/// A machine, state or result of another length.
+/// A machine, state, result or files of another length.
 pub const MISFIT: u32 = 200;
 
 mod raw {
@@ -41,6 +43,22 @@ mod raw {
             machine: *mut u32,
             machine_words: usize,
             count: u32,
+            result: *mut u64,
+            result_places: usize,
+        ) -> u32;
+        pub fn fm8502_traverse(
+            memory: *mut u32,
+            memory_words: usize,
+            bottom: u32,
+            journal: *mut u32,
+            journal_places: usize,
+            words: *const u32,
+            words_length: usize,
+            files: *const u32,
+            files_places: usize,
+            machine: *mut u32,
+            machine_words: usize,
+            version: u32,
             result: *mut u64,
             result_places: usize,
         ) -> u32;
@@ -84,6 +102,7 @@ mod raw {
             memory_words: usize,
             machine: *const u32,
             machine_words: usize,
+            version: u32,
             out: *mut u8,
             out_length: usize,
             result: *mut u64,
@@ -149,6 +168,42 @@ pub fn file_run(
     }
 }
 
+/// `files`: [`FILE_SIZE`] places to a file, its place, number of words, entry and count.
+/// `words`: the files' words, one file's behind the other's. `machine` as for [`run`].
+/// `result`: under rule 1 the undone files as bits, under rule 2 the number of the undone
+/// file, and 0 where all finished; instructions that ran in the last file run; journal
+/// pairs.
+#[allow(clippy::too_many_arguments)] // the library's own
+pub fn traverse(
+    memory: &mut [u32],
+    bottom: u32,
+    journal: &mut [u32],
+    words: &[u32],
+    files: &[u32],
+    machine: &mut [u32],
+    version: u32,
+    result: &mut [u64],
+) -> u32 {
+    unsafe {
+        raw::fm8502_traverse(
+            memory.as_mut_ptr(),
+            memory.len(),
+            bottom,
+            journal.as_mut_ptr(),
+            journal.len(),
+            words.as_ptr(),
+            words.len(),
+            files.as_ptr(),
+            files.len(),
+            machine.as_mut_ptr(),
+            machine.len(),
+            version,
+            result.as_mut_ptr(),
+            result.len(),
+        )
+    }
+}
+
 /// `state`: [`STATE_SIZE`] words, the machine's, row, instruction, address, a, b,
 /// result, list position, whether an access has begun, its clocks left. `resets`: the
 /// numbers of the reset clocks. `result`: instructions finished.
@@ -202,7 +257,7 @@ pub fn clock(
     }
 }
 
-/// `result`: the number of words loaded.
+/// `result`: the number of words loaded, the version.
 pub fn image_read(
     bytes: &[u8],
     memory: &mut [u32],
@@ -224,13 +279,20 @@ pub fn image_read(
 }
 
 /// `result`: the size of the image.
-pub fn image_write(memory: &[u32], machine: &[u32], out: &mut [u8], result: &mut [u64]) -> u32 {
+pub fn image_write(
+    memory: &[u32],
+    machine: &[u32],
+    version: u32,
+    out: &mut [u8],
+    result: &mut [u64],
+) -> u32 {
     unsafe {
         raw::fm8502_image_write(
             memory.as_ptr(),
             memory.len(),
             machine.as_ptr(),
             machine.len(),
+            version,
             out.as_mut_ptr(),
             out.len(),
             result.as_mut_ptr(),

@@ -8,22 +8,25 @@ pub struct Refused(pub u32);
 
 /// The papers' reasons, each with its number.
 #[rustfmt::skip] // tests/bindings.sh reads a reason a line
-const REASONS: [(u32, &str); 17] = [
+const REASONS: [(u32, &str); 20] = [
     (1, "the memory has no words"),
     (2, "the memory has more than 16,777,216 words"),
     (3, "the wait list has more than 65,536 entries"),
     (4, "the row, the list position or the access is bad"),
-    (5, "the file run wants more than 65,536 instructions"),
-    (6, "the journal has fewer than two places for each instruction"),
+    (5, "more than 65,536 instructions in a file run, or words and instructions in a traverse"),
+    (6, "the journal has fewer than two places for each instruction, and each word of a traverse"),
     (7, "the output is shorter than the image"),
     (8, "the image ends inside a field or before its end field"),
     (9, "a tag is not the one due"),
     (10, "a length is not the one due"),
-    (11, "the version is not 1"),
+    (11, "the version is neither 1 nor 2"),
     (12, "a flag byte exceeds 1"),
     (13, "the word count is 0 or above 16,777,216"),
     (14, "the memory is shorter than the word count"),
     (15, "bytes follow the end field"),
+    (16, "the traverse has more than 64 files"),
+    (17, "a file's place plus words exceeds the memory, or a word of it lies below the bottom"),
+    (18, "the files' words do not add up to the list of words"),
     (21, "the bottom exceeds the memory's length"),
     (22, "the reset list does not rise strictly"),
 ];

@@ -48,7 +48,7 @@ fn show(name: &[u8], image: &[u8], size: usize) {
 
 // The image of some words, put to the front of a buffer; how long it is, 0 where there is no room for it.
 fn make(words: &[u32], start: Machine, image: &mut [u8]) -> usize {
-    match write(words, start, image) {
+    match write(words, start, 1, image) {
         WriteAnswer::Written(size) => size,
         WriteAnswer::Refused(_) => 0,
     }

@@ -55,7 +55,9 @@ fn show_fields() {
     show_changed(b"tag\n", 0, 2);
     show_changed(b"last tag\n", 60, 5);
     show_changed(b"length\n", 40, 5);
-    show_changed(b"version\n", 3, 2);
+    show_changed(b"version 0\n", 3, 0);
+    show_changed(b"version 2\n", 3, 2);
+    show_changed(b"version 3\n", 3, 3);
 }
 
 // Values that are not as they should be.

@@ -1,4 +1,4 @@
-// The loop that both kinds of run share. One loop with one call of the step, waits and journal in it: a second one would cost both their
+// The loop that every run of whole instructions shares. One loop with one call of the step, waits and journal in it: a second one would cost both their
 // speed.
 mod clocks;
 

@@ -21,9 +21,12 @@ use Rattle.image.specs.Bytes.{bytesOf, numberIn, wordBytes, wordsIn}
 use Rattle.image.specs.Format.{fieldsFor, fieldBytes, memoryFields, imageOf}
 use Rattle.image.specs.Reading.{headerVerdict, fieldVerdict, readField, readMemory, readOf}
 use Rattle.image.specs.Calls.{writeVerdict, writeReturned, writeBytes, readReturned, readWords}
+use Rattle.traverses.specs.Files.{filesFrom, filesIn, parts, wanted, sizes, allPlaced}
+use Rattle.traverses.specs.Traverse.{laid, laidPairs, partRun, partPairs, oneFile, traversed}
+use Rattle.traverses.specs.Calls.{traverseVerdict, traverseReturned, traverseWords, traversePlaces}
 use Rattle.host_reading.specs.Layout.{machineIn, stateIn, lentFormed}
 use Rattle.host_words.specs.Words.{machineWords}
-use Rattle.host_calls.specs.Calls.{RunCall, FileCall, GateCall, ReadCall, WriteCall}
+use Rattle.host_calls.specs.Calls.{RunCall, FileCall, GateCall, TraverseCall, ReadCall, WriteCall}
 
 -- a lent machine of r0, r1 and r2; the other registers and the flags are 0
 abbrev machine : (r0 r1 r2 : ℕ) → List ℕ
@@ -143,11 +146,55 @@ gate-run-level : GateCall (7 ∷ []) 0 [] (4 ∷ 4 ∷ []) (replicate 21 0) 1 (u
 unfolding gateVerdict gateReturned gateWords machineIn stateIn lentFormed machineWords
 gate-run-level = record { returned = refl; words = refl; parts = refl; numbers = refl }
 
+-- ---- CR 1: traverses
+
+-- the move of r2 to the word at r1, laid twice: at word 0 and entered there; and at word 1, of which two instructions are wanted, the second
+-- outside. Place, words, entry, instructions
+abbrev moves : List ℕ
+moves = 0x122 ∷ 0x122 ∷ []
+
+abbrev files : List ℕ
+files = 0 ∷ 1 ∷ 0 ∷ 1 ∷ 1 ∷ 1 ∷ 1 ∷ 2 ∷ []
+
+-- what the journal then holds: the first file's word and its store, then the second's
+abbrev pairs : List ℕ
+pairs = 0 ∷ 7 ∷ 0 ∷ 0x122 ∷ 1 ∷ 8 ∷ 0 ∷ 5 ∷ 9 ∷ 9 ∷ []
+
+-- rule 1: the first file has run, the second is marked and leaves nothing but its pairs
+traverse-1 : TraverseCall (7 ∷ 8 ∷ []) 0 (used 10) moves files (machine 4 0 5) 1 (used 3)
+    (5 ∷ 8 ∷ []) pairs (machine 1 0 5) (2 ∷ 1 ∷ 4 ∷ []) 0
+unfolding field bit isInstruction operandA operandB answers aluAt aluOf isMove operation alu flagsAfter stores execute stop advance interpret storedBy journalPairs journalWords fileVerdict filesFrom filesIn parts wanted sizes allPlaced laid laidPairs partRun partPairs oneFile traversed traverseVerdict traverseReturned traverseWords traversePlaces machineIn lentFormed machineWords
+traverse-1 = record { returned = refl; words = refl; places = refl; parts = refl; numbers = refl }
+
+-- rule 2: the second file, number 1, takes the first back; memory and machine stay, even flag words of 9
+traverse-2 : TraverseCall (7 ∷ 8 ∷ []) 0 (used 10) moves files (4 ∷ 0 ∷ 5 ∷ replicate 5 0 ++ used 4) 2 (used 3)
+    (7 ∷ 8 ∷ []) pairs (4 ∷ 0 ∷ 5 ∷ replicate 5 0 ++ used 4) (1 ∷ 1 ∷ 4 ∷ []) 100
+unfolding field bit isInstruction operandA operandB answers aluAt aluOf isMove operation alu flagsAfter stores execute stop advance interpret storedBy journalPairs journalWords fileVerdict filesFrom filesIn parts wanted sizes allPlaced laid laidPairs partRun partPairs oneFile traversed traverseVerdict traverseReturned traverseWords traversePlaces machineIn lentFormed machineWords
+traverse-2 = record { returned = refl; words = refl; places = refl; parts = refl; numbers = refl }
+
+-- rule 2 with no files: finished, 0 in each place; flag words of 9 become 1
+traverse-none : TraverseCall (7 ∷ []) 0 [] [] [] (replicate 8 0 ++ used 4) 2 (used 3)
+    (7 ∷ []) [] (replicate 8 0 ++ 1 ∷ 1 ∷ 1 ∷ 1 ∷ []) (0 ∷ 0 ∷ 0 ∷ []) 0
+unfolding journalWords fileVerdict filesFrom filesIn parts wanted sizes allPlaced traversed traverseVerdict traverseReturned traverseWords traversePlaces machineIn lentFormed machineWords
+traverse-none = record { returned = refl; words = refl; places = refl; parts = refl; numbers = refl }
+
+-- a word laid below the bottom is 17: what is lent stays
+traverse-refused : TraverseCall (used 2) 1 (used 10) moves files (used 12) 1 (used 3)
+    (used 2) (used 10) (used 12) (used 3) 17
+unfolding fileVerdict filesFrom filesIn parts wanted sizes allPlaced traverseVerdict traverseReturned traverseWords traversePlaces machineIn lentFormed machineWords
+traverse-refused = record { returned = refl; words = refl; places = refl; parts = refl; numbers = refl }
+
+-- no file has three places, before any reason to refuse
+traverse-misfit : TraverseCall [] 1 [] [] (used 3) (used 12) 0 (used 3)
+    [] [] (used 12) (used 3) 200
+unfolding lentFormed
+traverse-misfit = record { returned = refl; words = refl; places = refl; parts = refl; numbers = refl }
+
 -- ---- the image of one word
 
-abbrev image : List ℕ
-image =
-    1 ∷ 1 ∷ 0 ∷ 1  -- version
+abbrev image : (version : ℕ) → List ℕ
+image version =
+    1 ∷ 1 ∷ 0 ∷ version
     ∷ 2 ∷ 32 ∷ 0 ∷ replicate 32 0  -- registers
     ++ 3 ∷ 4 ∷ 0 ∷ 0 ∷ 0 ∷ 0 ∷ 0  -- flags
     ∷ 4 ∷ 4 ∷ 0 ∷ 1 ∷ 0 ∷ 0 ∷ 0  -- M
@@ -155,12 +202,35 @@ image =
     ∷ 0xFF ∷ 0 ∷ 0  -- end
     ∷ []
 
-image-write : WriteCall (0x0001_3C21 ∷ []) (machine 0 0 0) (used 64) (used 1)
-    (image ++ 9 ∷ []) (63 ∷ []) 0
+image-write : WriteCall (0x0001_3C21 ∷ []) (machine 0 0 0) 1 (used 64) (used 1)
+    (image 1 ++ 9 ∷ []) (63 ∷ []) 0
 unfolding bytesOf wordBytes fieldsFor fieldBytes memoryFields imageOf writeVerdict writeReturned writeBytes machineIn lentFormed
 image-write = record { returned = refl; bytes = refl; numbers = refl }
 
-image-read : ReadCall image (used 2) (used 12) (used 1)
-    (0x0001_3C21 ∷ 9 ∷ []) (machine 0 0 0) (1 ∷ []) 0
+-- CR 1: as version 2
+image-write-2 : WriteCall (0x0001_3C21 ∷ []) (machine 0 0 0) 2 (used 64) (used 1)
+    (image 2 ++ 9 ∷ []) (63 ∷ []) 0
+unfolding bytesOf wordBytes fieldsFor fieldBytes memoryFields imageOf writeVerdict writeReturned writeBytes machineIn lentFormed
+image-write-2 = record { returned = refl; bytes = refl; numbers = refl }
+
+-- CR 1: no image has version 0, and an output that is too short comes first
+image-write-0 : WriteCall (used 1) (used 12) 0 (used 63) (used 1)
+    (used 63) (used 1) 11
+unfolding bytesOf wordBytes fieldsFor fieldBytes memoryFields imageOf writeVerdict writeReturned writeBytes machineIn lentFormed
+image-write-0 = record { returned = refl; bytes = refl; numbers = refl }
+
+image-write-short : WriteCall (used 1) (used 12) 0 (used 62) (used 1)
+    (used 62) (used 1) 7
+unfolding bytesOf wordBytes fieldsFor fieldBytes memoryFields imageOf writeVerdict writeReturned writeBytes machineIn lentFormed
+image-write-short = record { returned = refl; bytes = refl; numbers = refl }
+
+image-read : ReadCall (image 1) (used 2) (used 12) (used 2)
+    (0x0001_3C21 ∷ 9 ∷ []) (machine 0 0 0) (1 ∷ 1 ∷ []) 0
 unfolding numberIn wordsIn fieldsFor headerVerdict fieldVerdict readField readMemory readOf readReturned readWords lentFormed machineWords
 image-read = record { returned = refl; words = refl; parts = refl; numbers = refl }
+
+-- CR 1: the version that was read
+image-read-2 : ReadCall (image 2) (used 2) (used 12) (used 2)
+    (0x0001_3C21 ∷ 9 ∷ []) (machine 0 0 0) (1 ∷ 2 ∷ []) 0
+unfolding numberIn wordsIn fieldsFor headerVerdict fieldVerdict readField readMemory readOf readReturned readWords lentFormed machineWords
+image-read-2 = record { returned = refl; words = refl; parts = refl; numbers = refl }

@@ -1,10 +1,11 @@
--- What each exported call returns and leaves in what it is lent: the calls of the interpreter, the gate machine, the image reader and
--- the image writer, on lent words. Document 01, "Machine and instruction word", "Clocks", "File run and journal", "Image" and "Why a call
--- is turned down"; CR 5, CR 6 and CR 7.
-use Prim.Native.Nat.{ℕ}
+-- What each exported call returns and leaves in what it is lent: the calls of the interpreter, the gate machine, a traverse, the image
+-- reader and the image writer, on lent words. Document 01, "Machine and instruction word", "Clocks", "File run and journal", "Image" and "Why a call
+-- is turned down"; CR 1, CR 5, CR 6 and CR 7.
+use Prim.Native.Nat.{ℕ, _%_}
 use mathlib.Core.Path.{_≡_}
-use mathlib.Core.Bool.{Bool, cond}
+use mathlib.Core.Bool.{Bool, cond, _&&_}
 use mathlib.Core.List.{List}
+use lib.Dec.{eqb}
 use lib.ListN.{length}
 use Rattle.model.specs.Board.{boardWith}
 use Rattle.interpreter.specs.declared.RunResult.{RunResult}
@@ -15,10 +16,12 @@ use Rattle.gate_machine.specs.Calls.{gateNumber, gateReturned, gateWords}
 use Rattle.image.specs.declared.ReadResult.{ReadResult}
 use Rattle.image.specs.declared.WriteAnswer.{WriteAnswer}
 use Rattle.image.specs.Calls.{writeNumber, writeReturned, writeBytes, readNumber, readReturned, readWords}
-use Rattle.host_reading.specs.Layout.{runPlaces, fileRunPlaces, countPlaces, machineSize, machineIn, stateSize, stateIn, lentFormed}
+use Rattle.traverses.specs.declared.TraverseResult.{TraverseResult}
+use Rattle.traverses.specs.Calls.{traverseReturned, traverseWords, traversePlaces}
+use Rattle.host_reading.specs.Layout.{threePlaces, twoPlaces, onePlace, fileSize, machineSize, machineIn, stateSize, stateIn, lentFormed}
 use Rattle.host_words.specs.Words.{machineWords, stateWords}
-use Rattle.host_calls.specs.Codes.{codeIf, afterCall, afterFile, runCode, fileCode}
-use Rattle.host_calls.specs.Codes.{runCounts, fileCounts, gateCounts, readCounts, writeCounts}
+use Rattle.host_calls.specs.Codes.{codeIf, afterCall, afterFile, runCode, fileCode, traverseCode}
+use Rattle.host_calls.specs.Codes.{runCounts, fileCounts, gateCounts, traverseCounts, readCounts, writeCounts}
 
 -- whether a lent machine, and a result of so many places as are due, have the layout's lengths
 abbrev pub machineFormed : (due : ℕ) → (machine result : List ℕ) → Bool
@@ -26,7 +29,11 @@ machineFormed due machine result = lentFormed machineSize due (length machine) (
 
 -- and a lent state, with a result of one place
 abbrev pub stateFormed : (state result : List ℕ) → Bool
-stateFormed state result = lentFormed stateSize countPlaces (length state) (length result)
+stateFormed state result = lentFormed stateSize onePlace (length state) (length result)
+
+-- a lent list of files, with a machine and a result of three places
+abbrev pub filesFormed : (files machine result : List ℕ) → Bool
+filesFormed files machine result = eqb (length files % fileSize) 0 && machineFormed threePlaces machine result
 
 -- For each call: what the call within returns where what is lent has these lengths, the code that it comes to, and what it leaves.
 
@@ -37,11 +44,11 @@ module _ (memory : List ℕ) (bottom : ℕ) (waits : List ℕ) (position : ℕ) 
   runWithin = runReturned memory (boardWith bottom waits) position (machineIn machine) count
 
   abbrev pub runComesTo : ℕ
-  runComesTo = codeIf (machineFormed runPlaces machine result) (runCode (runWithin .answer))
+  runComesTo = codeIf (machineFormed threePlaces machine result) (runCode (runWithin .answer))
 
   pub record RunCall (memory′ machine′ result′ : List ℕ) (number : ℕ) : Type 0 where
     pub returned : number ≡ runComesTo
-    pub words : memory′ ≡ cond (machineFormed runPlaces machine result) (runWords memory (boardWith bottom waits) position (machineIn machine) count) memory
+    pub words : memory′ ≡ cond (machineFormed threePlaces machine result) (runWords memory (boardWith bottom waits) position (machineIn machine) count) memory
     pub parts : machine′ ≡ afterCall runComesTo (machineWords (runWithin .machine)) machine
     pub numbers : result′ ≡ afterCall runComesTo (runCounts runWithin) result
 
@@ -52,12 +59,12 @@ module _ (memory : List ℕ) (bottom : ℕ) (journal machine : List ℕ) (count 
   fileWithin = fileReturned memory bottom journal (machineIn machine) count
 
   abbrev pub fileComesTo : ℕ
-  fileComesTo = codeIf (machineFormed fileRunPlaces machine result) (fileCode (fileWithin .answer))
+  fileComesTo = codeIf (machineFormed twoPlaces machine result) (fileCode (fileWithin .answer))
 
   pub record FileCall (memory′ journal′ machine′ result′ : List ℕ) (number : ℕ) : Type 0 where
     pub returned : number ≡ fileComesTo
-    pub words : memory′ ≡ cond (machineFormed fileRunPlaces machine result) (fileWords memory bottom journal (machineIn machine) count) memory
-    pub places : journal′ ≡ cond (machineFormed fileRunPlaces machine result) (filePlaces memory bottom journal (machineIn machine) count) journal
+    pub words : memory′ ≡ cond (machineFormed twoPlaces machine result) (fileWords memory bottom journal (machineIn machine) count) memory
+    pub places : journal′ ≡ cond (machineFormed twoPlaces machine result) (filePlaces memory bottom journal (machineIn machine) count) journal
     pub parts : machine′ ≡ afterFile fileComesTo (machineWords (fileWithin .machine)) machine
     pub numbers : result′ ≡ afterCall fileComesTo (fileCounts fileWithin) result
 
@@ -76,6 +83,22 @@ module _ (memory : List ℕ) (bottom : ℕ) (waits resets state : List ℕ) (clo
     pub parts : state′ ≡ afterCall gateComesTo (stateWords (gateWithin .state)) state
     pub numbers : result′ ≡ afterCall gateComesTo (gateCounts gateWithin) result
 
+-- ---- fm8502_traverse: a traverse (CR 1); `load` is the one list that the files' words lie in
+
+module _ (memory : List ℕ) (bottom : ℕ) (journal load files machine : List ℕ) (version : ℕ) (result : List ℕ) where
+  abbrev pub traverseWithin : TraverseResult
+  traverseWithin = traverseReturned memory bottom journal load files (machineIn machine) version
+
+  abbrev pub traverseComesTo : ℕ
+  traverseComesTo = codeIf (filesFormed files machine result) (traverseCode (traverseWithin .answer))
+
+  pub record TraverseCall (memory′ journal′ machine′ result′ : List ℕ) (number : ℕ) : Type 0 where
+    pub returned : number ≡ traverseComesTo
+    pub words : memory′ ≡ cond (filesFormed files machine result) (traverseWords memory bottom journal load files (machineIn machine) version) memory
+    pub places : journal′ ≡ cond (filesFormed files machine result) (traversePlaces memory bottom journal load files (machineIn machine) version) journal
+    pub parts : machine′ ≡ afterFile traverseComesTo (machineWords (traverseWithin .machine)) machine
+    pub numbers : result′ ≡ afterCall traverseComesTo (traverseCounts traverseWithin) result
+
 -- ---- fm8502_image_read: the image reader
 
 module _ (bytes memory machine result : List ℕ) where
@@ -83,24 +106,24 @@ module _ (bytes memory machine result : List ℕ) where
   readWithin = readReturned bytes memory
 
   abbrev pub readComesTo : ℕ
-  readComesTo = codeIf (machineFormed countPlaces machine result) (readNumber (readWithin .answer))
+  readComesTo = codeIf (machineFormed twoPlaces machine result) (readNumber (readWithin .answer))
 
   pub record ReadCall (memory′ machine′ result′ : List ℕ) (number : ℕ) : Type 0 where
     pub returned : number ≡ readComesTo
-    pub words : memory′ ≡ cond (machineFormed countPlaces machine result) (readWords bytes memory) memory
+    pub words : memory′ ≡ cond (machineFormed twoPlaces machine result) (readWords bytes memory) memory
     pub parts : machine′ ≡ afterCall readComesTo (machineWords (readWithin .machine)) machine
     pub numbers : result′ ≡ afterCall readComesTo (readCounts readWithin) result
 
 -- ---- fm8502_image_write: the image writer
 
-module _ (memory machine out result : List ℕ) where
+module _ (memory machine : List ℕ) (version : ℕ) (out result : List ℕ) where
   abbrev pub writeWithin : WriteAnswer
-  writeWithin = writeReturned memory (machineIn machine) out
+  writeWithin = writeReturned memory (machineIn machine) version out
 
   abbrev pub writeComesTo : ℕ
-  writeComesTo = codeIf (machineFormed countPlaces machine result) (writeNumber writeWithin)
+  writeComesTo = codeIf (machineFormed onePlace machine result) (writeNumber writeWithin)
 
   pub record WriteCall (out′ result′ : List ℕ) (number : ℕ) : Type 0 where
     pub returned : number ≡ writeComesTo
-    pub bytes : out′ ≡ cond (machineFormed countPlaces machine result) (writeBytes memory (machineIn machine) out) out
+    pub bytes : out′ ≡ cond (machineFormed onePlace machine result) (writeBytes memory (machineIn machine) version out) out
     pub numbers : result′ ≡ afterCall writeComesTo (writeCounts writeWithin) result

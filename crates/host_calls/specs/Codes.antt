@@ -12,7 +12,9 @@ use Rattle.interpreter.specs.declared.FileResult.{FileResult}
 use Rattle.gate_machine.specs.declared.GateResult.{GateResult}
 use Rattle.image.specs.declared.ReadResult.{ReadResult}
 use Rattle.image.specs.declared.WriteAnswer.{WriteAnswer}
-use Rattle.image.specs.Calls.{writeSize, readCount}
+use Rattle.image.specs.Calls.{writeSize, readCount, readVersion}
+use Rattle.traverses.specs.declared.TraverseAnswer.{TraverseAnswer}
+use Rattle.traverses.specs.declared.TraverseResult.{TraverseResult}
 
 -- ---- the codes: a refusal has the papers' number; of a gate run, a read and a write the answer's number is the code
 
@@ -43,6 +45,13 @@ fileCode FileAnswer.Finished = done
 fileCode FileAnswer.Undone = stopped
 fileCode (FileAnswer.Refused why) = refusalNumber why
 
+-- CR 1: a traverse under rule 1 that is carried out is done, whichever files were undone
+abbrev pub traverseCode : TraverseAnswer → ℕ
+traverseCode (TraverseAnswer.Marked files) = done
+traverseCode TraverseAnswer.Finished = done
+traverseCode (TraverseAnswer.Undone file) = stopped
+traverseCode (TraverseAnswer.Refused why) = refusalNumber why
+
 -- the code of a call that goes on only where what is lent has the layout's lengths
 abbrev pub codeIf : Bool → ℕ → ℕ
 codeIf fits code = cond fits code misfit
@@ -58,7 +67,7 @@ finishes code = eqb code done
 abbrev pub afterCall : (code : ℕ) → (put former : List ℕ) → List ℕ
 afterCall code put former = cond (carriedOut code) put former
 
--- a lent machine after a file run, which puts its machine there where it finished; "undone" leaves the words as they were
+-- a lent machine after a file run or a traverse, which puts its machine there where it finished; "undone" leaves the words as they were
 abbrev pub afterFile : (code : ℕ) → (put former : List ℕ) → List ℕ
 afterFile code put former = cond (finishes code) put former
 
@@ -76,9 +85,20 @@ fileCounts r = r .ran ∷ r .pairs ∷ []
 abbrev pub gateCounts : GateResult → List ℕ
 gateCounts r = r .outcome .finished ∷ []
 
--- the image's words
+-- CR 1: the mask of the undone files, or the number of the file that was undone, 0 where none was; the instructions that ran in the last file run,
+-- the journal's pairs
+abbrev pub undoneFiles : TraverseAnswer → ℕ
+undoneFiles (TraverseAnswer.Marked files) = files
+undoneFiles TraverseAnswer.Finished = 0
+undoneFiles (TraverseAnswer.Undone file) = file
+undoneFiles (TraverseAnswer.Refused why) = 0
+
+abbrev pub traverseCounts : TraverseResult → List ℕ
+traverseCounts r = undoneFiles (r .answer) ∷ r .ran ∷ r .pairs ∷ []
+
+-- the image's words, its version (CR 1)
 abbrev pub readCounts : ReadResult → List ℕ
-readCounts r = readCount (r .answer) ∷ []
+readCounts r = readCount (r .answer) ∷ readVersion (r .answer) ∷ []
 
 -- the image's bytes
 abbrev pub writeCounts : WriteAnswer → List ℕ

@@ -16,10 +16,12 @@ use Rattle.gate_machine.specs.declared.GateResult.{GateResult}
 use Rattle.image.specs.declared.ReadAnswer.{ReadAnswer}
 use Rattle.image.specs.declared.ReadResult.{ReadResult}
 use Rattle.image.specs.declared.WriteAnswer.{WriteAnswer}
-use Rattle.host_reading.specs.Layout.{runPlaces, fileRunPlaces, countPlaces, machineSize, stateSize}
+use Rattle.traverses.specs.declared.TraverseAnswer.{TraverseAnswer}
+use Rattle.traverses.specs.declared.TraverseResult.{TraverseResult}
+use Rattle.host_reading.specs.Layout.{threePlaces, twoPlaces, onePlace, machineSize, stateSize}
 use Rattle.host_words.specs.Words.{machineWords, stateWords, laid}
-use Rattle.host_calls.specs.Codes.{done, stopped, halted, carriedOut, finishes, runCode, runCounts, fileCounts, gateCounts}
-use Rattle.host_ends.specs.Ends.{Ends, RunEnds, FileEnds, GateEnds, ReadEnds, WriteEnds}
+use Rattle.host_calls.specs.Codes.{done, stopped, halted, carriedOut, finishes, runCode, traverseCode, undoneFiles, runCounts, fileCounts, gateCounts}
+use Rattle.host_ends.specs.Ends.{Ends, RunEnds, FileEnds, GateEnds, TraverseEnds, ReadEnds, WriteEnds}
 
 -- a refusal's number is no code of a call that was carried out
 pub turned-down : (why : Refusal) → carriedOut (refusalNumber why) ≡ false
@@ -44,7 +46,7 @@ not-finished why = ne-eqb (refusalNumber why) done (omega (arith, numbered why .
 -- a run's end, by the code that its answer comes to
 module _ (r : RunResult) (code : ℕ) (n : code ≡ runCode (r .answer)) (lent result : List ℕ) where
   pub run-written : carriedOut code ≡ true → (lent′ result′ : List ℕ) → lent′ ≡ laid machineSize (machineWords (r .machine)) lent
-      → result′ ≡ laid runPlaces (runCounts r) result → RunEnds r lent result lent′ result′ code
+      → result′ ≡ laid threePlaces (runCounts r) result → RunEnds r lent result lent′ result′ code
   run-written e lent′ result′ w p =
       let f = rw n at e in
       record { returned = n; parts = rw f w; numbers = rw f p }
@@ -55,25 +57,34 @@ module _ (r : RunResult) (code : ℕ) (n : code ≡ runCode (r .answer)) (lent r
       record { returned = n; parts = rw f; numbers = rw f }
 
 pub file-undone : (r : FileResult) (lent result result′ : List ℕ) → r .answer ≡ FileAnswer.Undone
-    → result′ ≡ laid fileRunPlaces (fileCounts r) result → FileEnds r lent result lent result′ stopped
+    → result′ ≡ laid twoPlaces (fileCounts r) result → FileEnds r lent result lent result′ stopped
 file-undone r lent result result′ e p = record { returned = rw e; parts = rw e; numbers = rw e p }
 
+pub traverse-undone : (r : TraverseResult) (lent result result′ : List ℕ) (file : ℕ) → r .answer ≡ TraverseAnswer.Undone file
+    → result′ ≡ laid threePlaces (file ∷ r .ran ∷ r .pairs ∷ []) result → TraverseEnds r lent result lent result′ stopped
+traverse-undone r lent result result′ file e p = record { returned = rw e; parts = rw e; numbers = rw e p }
+
 module _ (lent result lent′ result′ : List ℕ) where
+  pub traverse-done : (r : TraverseResult) (files : ℕ) (a : TraverseAnswer) → traverseCode a ≡ done → undoneFiles a ≡ files → r .answer ≡ a
+      → lent′ ≡ laid machineSize (machineWords (r .machine)) lent
+      → result′ ≡ laid threePlaces (files ∷ r .ran ∷ r .pairs ∷ []) result → TraverseEnds r lent result lent′ result′ done
+  traverse-done r files a c u e w p = record { returned = rw (e, c); parts = rw (e, c) w; numbers = rw (e, c, u) p }
+
   pub file-finished : (r : FileResult) → r .answer ≡ FileAnswer.Finished → lent′ ≡ laid machineSize (machineWords (r .machine)) lent
-      → result′ ≡ laid fileRunPlaces (fileCounts r) result → FileEnds r lent result lent′ result′ done
+      → result′ ≡ laid twoPlaces (fileCounts r) result → FileEnds r lent result lent′ result′ done
   file-finished r e w p = record { returned = rw e; parts = rw e w; numbers = rw e p }
 
   pub gate-done : (r : GateResult) → r .outcome .answer ≡ GateAnswer.Ran → lent′ ≡ laid stateSize (stateWords (r .state)) lent
-      → result′ ≡ laid countPlaces (gateCounts r) result → GateEnds r lent result lent′ result′ done
+      → result′ ≡ laid onePlace (gateCounts r) result → GateEnds r lent result lent′ result′ done
   gate-done r e w p = record { returned = rw e; parts = rw e w; numbers = rw e p }
 
-  pub read-done : (r : ReadResult) (words : ℕ) → r .answer ≡ ReadAnswer.Loaded words
-      → lent′ ≡ laid machineSize (machineWords (r .machine)) lent → result′ ≡ laid countPlaces (words ∷ []) result
+  pub read-done : (r : ReadResult) (words version : ℕ) → r .answer ≡ ReadAnswer.Loaded words version
+      → lent′ ≡ laid machineSize (machineWords (r .machine)) lent → result′ ≡ laid twoPlaces (words ∷ version ∷ []) result
       → ReadEnds r lent result lent′ result′ done
-  read-done r words e w p = record { returned = rw e; parts = rw e w; numbers = rw e p }
+  read-done r words version e w p = record { returned = rw e; parts = rw e w; numbers = rw e p }
 
 module _ (r : WriteAnswer) (result : List ℕ) where
-  pub write-done : (size : ℕ) → r ≡ WriteAnswer.Written size → (result′ : List ℕ) → result′ ≡ laid countPlaces (size ∷ []) result
+  pub write-done : (size : ℕ) → r ≡ WriteAnswer.Written size → (result′ : List ℕ) → result′ ≡ laid onePlace (size ∷ []) result
       → WriteEnds r result result′ done
   write-done size e result′ p = record { returned = rw e; numbers = rw e p }
 

@@ -1,5 +1,5 @@
 // What a call of the host library writes at its end, and the code that it returns. Nothing is written unless the call was carried out; a file run
-// that is undone writes its result alone.
+// or a traverse that is undone writes its result alone.
 mod codes;
 mod places;
 
@@ -22,7 +22,9 @@ use places::put_one;
 use places::put_three;
 use places::put_two;
 use refusals::refusal_number;
-ghost use Rattle.host_ends.specs.Ends.{RunEnds, FileEnds, GateEnds, ReadEnds, WriteEnds};
+use traverses::TraverseAnswer;
+use traverses::TraverseResult;
+ghost use Rattle.host_ends.specs.Ends.{RunEnds, FileEnds, GateEnds, TraverseEnds, ReadEnds, WriteEnds};
 
 pub fn end_run(r: RunResult, machine: &mut [u32], result: &mut [u64]) -> u32
     ensures { λ code. ⌜ RunEnds r (now (machine .entry)) (now (result .entry)) (now (machine .exit)) (now (result .exit)) code ⌝ }
@@ -69,15 +71,38 @@ pub fn end_gate_run(r: GateResult, state: &mut [u32], result: &mut [u64]) -> u32
     }
 }
 
+pub fn end_traverse(r: TraverseResult, machine: &mut [u32], result: &mut [u64]) -> u32
+    ensures { λ code. ⌜ TraverseEnds r (now (machine .entry)) (now (result .entry)) (now (machine .exit)) (now (result .exit)) code ⌝ }
+{
+    let answer = r.answer;
+    match answer {
+        TraverseAnswer::Refused(why) => refusal_number(why),
+        TraverseAnswer::Undone(file) => {
+            put_three(file as u64, r.ran as u64, r.pairs as u64, result);
+            STOPPED
+        }
+        TraverseAnswer::Finished => {
+            put_machine(r.machine, machine);
+            put_three(0, r.ran as u64, r.pairs as u64, result);
+            DONE
+        }
+        TraverseAnswer::Marked(files) => {
+            put_machine(r.machine, machine);
+            put_three(files, r.ran as u64, r.pairs as u64, result);
+            DONE
+        }
+    }
+}
+
 pub fn end_read(r: ReadResult, machine: &mut [u32], result: &mut [u64]) -> u32
     ensures { λ code. ⌜ ReadEnds r (now (machine .entry)) (now (result .entry)) (now (machine .exit)) (now (result .exit)) code ⌝ }
 {
     let answer = r.answer;
     match answer {
         ReadAnswer::Refused(why) => refusal_number(why),
-        ReadAnswer::Loaded(words) => {
+        ReadAnswer::Loaded(words, version) => {
             put_machine(r.machine, machine);
-            put_one(words as u64, result);
+            put_two(words as u64, version as u64, result);
             DONE
         }
     }

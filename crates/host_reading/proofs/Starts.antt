@@ -10,7 +10,7 @@ use Rattle.model.specs.declared.GateState.{GateState}
 use Rattle.model.specs.Words.{wordAt}
 use Rattle.host_reading.specs.declared.MachineLent.{MachineLent}
 use Rattle.host_reading.specs.declared.StateLent.{StateLent}
-use Rattle.host_reading.specs.Layout.{countPlaces, machineSize, machineIn, stateSize, rowIn, leftIn, stateAround, stateIn, lentFormed, wordsIf, machineLent, stateLent}
+use Rattle.host_reading.specs.Layout.{onePlace, machineSize, machineIn, stateSize, rowIn, leftIn, stateAround, stateIn, lentFormed, wordsIf, machineLent, stateLent}
 
 pub state-from : (words : List ℕ) (m : Machine) → m ≡ machineIn words → (row : ℕ) → row ≡ rowIn (wordAt words 12) (wordAt words 20)
     → (left : ℕ) → left ≡ leftIn (wordAt words 20) → stateAround words m row left ≡ stateIn words
@@ -23,7 +23,7 @@ module _ (words : List ℕ) (places due : ℕ) where
   unfolding machineLent
   machine-lent-from m formed f e = rw (e, f)
 
-pub state-lent-from : (words : List ℕ) (places : ℕ) (s : GateState) (formed : Bool) → formed ≡ lentFormed stateSize countPlaces (length words) places
+pub state-lent-from : (words : List ℕ) (places : ℕ) (s : GateState) (formed : Bool) → formed ≡ lentFormed stateSize onePlace (length words) places
     → s ≡ stateIn (wordsIf formed words) → record { formed = formed; state = s } ≡ stateLent words places
 unfolding stateLent
 state-lent-from words places s formed f e = rw (e, f)
@@ -47,7 +47,7 @@ module _ (words : List ℕ) (places due : ℕ) (r : MachineLent) (e : r ≡ mach
   machine-start n = ap (λ (l : MachineLent). l .machine) e ∙ rw (lent-fits machine-tested n)
 
 module _ (words : List ℕ) (places : ℕ) (r : StateLent) (e : r ≡ stateLent words places) where
-  pub state-tested : r .formed ≡ lentFormed stateSize countPlaces (length words) places
+  pub state-tested : r .formed ≡ lentFormed stateSize onePlace (length words) places
   unfolding stateLent
   state-tested = ap (λ (l : StateLent). l .formed) e
 

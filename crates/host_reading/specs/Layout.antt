@@ -1,5 +1,5 @@
--- Where a machine and a gate state stand in the words that a host lends, how many words and result places are due, and what a call starts
--- from. Document 01, "Machine and instruction word", "Clocks" and, for words that no state can have, reason 4 of "Why a call is turned down".
+-- Where a machine and a gate state stand in the words that a host lends, how many words, result places and places of a file (CR 1) are due, and
+-- what a call starts from. Document 01, "Machine and instruction word", "Clocks" and, for words that no state can have, reason 4 of "Why a call is turned down".
 use Prim.Native.Nat.{ℕ, min}
 use mathlib.Core.Bool.{Bool, not, cond, _&&_}
 use mathlib.Core.List.{List, [], _∷_}
@@ -19,17 +19,22 @@ truth word = not (eqb word 0)
 
 -- ---- the result's places due
 
--- of a run; CR 7: the third is the list position after it
-abbrev pub runPlaces : ℕ
-runPlaces = 3
+-- of a run; CR 7: the third is the list position after it; and of a traverse (CR 1)
+abbrev pub threePlaces : ℕ
+threePlaces = 3
 
--- of a file run
-abbrev pub fileRunPlaces : ℕ
-fileRunPlaces = 2
+-- of a file run, and of a read of an image; CR 1: the second is the image's version
+abbrev pub twoPlaces : ℕ
+twoPlaces = 2
 
--- a result of one count: of a gate run and one clock, of a read and a write of an image
-abbrev pub countPlaces : ℕ
-countPlaces = 1
+-- a result of one count: of a gate run and one clock, and of a write of an image
+abbrev pub onePlace : ℕ
+onePlace = 1
+
+-- ---- CR 1: the places of a file in a list of files: place, number of words, entry, instruction count
+
+abbrev pub fileSize : ℕ
+fileSize = 4
 
 -- ---- 12 words: r0 to r7, C, V, N, Z
 
@@ -114,5 +119,5 @@ machineLent words places due =
 
 unfoldable pub stateLent : List ℕ → (places : ℕ) → StateLent
 stateLent words places =
-    let formed = lentFormed stateSize countPlaces (length words) places in
+    let formed = lentFormed stateSize onePlace (length words) places in
     record { formed = formed; state = stateIn (wordsIf formed words) }

@@ -14,14 +14,17 @@ pub const MACHINE_SIZE: usize = 12;
 
 pub const STATE_SIZE: usize = 21;
 
-// The result's places of a run.
-pub const RUN_PLACES: usize = 3;
+// The places of a file in a list of files.
+pub const FILE_SIZE: usize = 4;
 
-// The result's places of a file run.
-pub const FILE_RUN_PLACES: usize = 2;
+// The result's places of a run and of a traverse.
+pub const THREE_PLACES: usize = 3;
+
+// The result's places of a file run and of a read of an image.
+pub const TWO_PLACES: usize = 2;
 
 // The result's place of every other call.
-pub const COUNT_PLACES: usize = 1;
+pub const ONE_PLACE: usize = 1;
 
 // A machine, and whether what is lent has the layout's lengths; all 0 where it has not.
 pub struct MachineLent {
@@ -52,7 +55,7 @@ pub fn machine_lent(words: &[u32], places: usize, due: usize) -> MachineLent
 pub fn state_lent(words: &[u32], places: usize) -> StateLent
     ensures { λ r. ⌜ r ≡ stateLent (now (words .entry)) places ⌝ }
 {
-    if lent_formed(STATE_SIZE, COUNT_PLACES, words.len(), places) {
+    if lent_formed(STATE_SIZE, ONE_PLACE, words.len(), places) {
         return StateLent {
             formed: true,
             state: state_in(words),

@@ -1,7 +1,7 @@
--- What is loaded has the version that the writer writes, and is a memory that a run takes.
+-- What is loaded has a version that the writer takes, and is a memory that a run takes.
 use Prim.Native.Nat.{ℕ, zero, suc, _+_, _-_, _*_, _≤_, min}
-use mathlib.Core.Path.{_≡_, refl, sym, ap, _∙_}
-use mathlib.Core.Bool.{true, and-eq-true-iff}
+use mathlib.Core.Path.{_≡_, refl, sym, ap, ap₂, _∙_}
+use mathlib.Core.Bool.{Bool, true, false, _||_, and-eq-true-iff, true≢false}
 use mathlib.Core.List.{List, [], _++_}
 use native.Mathlib.Omega.{arith}
 use lib.Dec.{leb, eqb}
@@ -25,6 +25,14 @@ use Rattle.image.proofs.Bytes.{length-words}
 use Rattle.image.proofs.Outcomes.{went-on}
 use Rattle.image.proofs.Fields.{facts}
 use Rattle.image.proofs.Memories.{fields-enough}
+
+pub version-small : (version : ℕ) → isVersion version ≡ true → version ≤ 2
+version-small version e = go (eqb version 1) refl (eqb version 2) refl e
+  where
+    go : (a : Bool) → eqb version 1 ≡ a → (b : Bool) → eqb version 2 ≡ b → (a || b) ≡ true → version ≤ 2
+    go true p b q e = omega (arith, eqb-true version 1 p)
+    go false p true q e = omega (arith, eqb-true version 2 q)
+    go false p false q e = absurd (true≢false (sym e))
 
 module _ {version : ℕ} {machine : Machine} {words : List ℕ} where
   -- past one field, and past the fields of so many words
@@ -62,9 +70,8 @@ module _ {version : ℕ} {machine : Machine} {words : List ℕ} where
       let s : length words ≡ M = ap length (sym lm) ∙ m .2 in
       (ap isVersion (sym lv) ∙ demanded (isVersion v₀) WrongVersion (v .0), ap countFormed s ∙ demanded (countFormed M) BadWordCount (both (demand (countFormed M) BadWordCount) _ (c .0) .0))
 
-  -- the writer's version
-  pub version-one : (bytes : List ℕ) (room : ℕ) → readOf bytes room ≡ loaded version machine words → version ≡ 1
-  version-one bytes room e = eqb-true version 1 (ruled bytes room e .0)
+  pub version-known : (bytes : List ℕ) (room : ℕ) → readOf bytes room ≡ loaded version machine words → isVersion version ≡ true
+  version-known bytes room e = ruled bytes room e .0
 
 pub loaded-fits : LoadedFits
 loaded-fits room version machine memory bytes e =
@@ -73,25 +80,24 @@ loaded-fits room version machine memory bytes e =
 
 -- ---- a call that loaded
 
-pub record Loads (bytes memory memory′ : List ℕ) (r : ReadResult) (count : ℕ) : Type 0 where
-  pub version : ℕ
+pub record Loads (bytes memory memory′ : List ℕ) (r : ReadResult) (count version : ℕ) : Type 0 where
   pub words : List ℕ
   pub is : readOf bytes (length memory) ≡ loaded version (r .machine) words
   pub long : length words ≡ count
   pub whole : memory′ ≡ overlay words memory
 
-module _ {bytes memory memory′ : List ℕ} {r : ReadResult} {count : ℕ} where
-  pub loads : Reads bytes memory memory′ r → r .answer ≡ ReadAnswer.Loaded count → Loads bytes memory memory′ r count
+module _ {bytes memory memory′ : List ℕ} {r : ReadResult} {count version : ℕ} where
+  pub loads : Reads bytes memory memory′ r → r .answer ≡ ReadAnswer.Loaded count version → Loads bytes memory memory′ r count version
   unfolding readReturned readWords
   loads h e = go (readOf bytes (length memory)) refl
     where
-      go : (o : Outcome) → readOf bytes (length memory) ≡ o → Loads bytes memory memory′ r count
-      go (loaded version machine words) is =
-          let k : r ≡ readResult (loaded version machine words) = h .result ∙ ap readResult is in
+      go : (o : Outcome) → readOf bytes (length memory) ≡ o → Loads bytes memory memory′ r count version
+      go (loaded version₀ machine words) is =
+          let k : r ≡ readResult (loaded version₀ machine words) = h .result ∙ ap readResult is in
+          let v : version₀ ≡ version = cc in
           record {
-            version = version;
             words = words;
-            is = is ∙ ap (λ (x : ReadResult). loaded version (x .machine) words) (sym k);
+            is = is ∙ ap₂ (λ (n : ℕ) (x : ReadResult). loaded n (x .machine) words) v (sym k);
             long = cc;
             whole = h .words ∙ ap (λ (o : Outcome). outcomeWords o memory) is;
           }
@@ -101,5 +107,5 @@ module _ {bytes memory memory′ : List ℕ} {r : ReadResult} {count : ℕ} wher
           absurd (omega arith)
 
   -- its words are the memory's first ones
-  pub first-words : (l : Loads bytes memory memory′ r count) → take count memory′ ≡ l .words
+  pub first-words : (l : Loads bytes memory memory′ r count version) → take count memory′ ≡ l .words
   first-words l = ap (take count) (l .whole) ∙ take-at (l .words) (drop (length (l .words)) memory) count (l .long)

@@ -1,12 +1,12 @@
 -- The writer and the reader as calls: what is refused (1, 2 and 7 to 15), what is answered, and every lent byte and word
--- afterwards. Document 01, "Image" and "Why a call is turned down".
+-- afterwards. Document 01, "Image" and "Why a call is turned down"; CR 1.
 use Prim.Native.Nat.{ℕ}
 use mathlib.Core.Path.{_≡_}
 use mathlib.Core.List.{List}
 use lib.Dec.{leb}
 use lib.ListN.{length, replicate}
 use Rattle.model.specs.declared.Machine.{Machine}
-use Rattle.model.specs.declared.Refusal.the-variants.{ShortOutput}
+use Rattle.model.specs.declared.Refusal.the-variants.{ShortOutput, WrongVersion}
 use Rattle.model.specs.declared.Verdict.{Verdict}
 use Rattle.model.specs.declared.Verdict.the-variants.{Accepted, Refused}
 use Rattle.model.specs.Words.{overlay}
@@ -16,14 +16,15 @@ use Rattle.model.specs.Refusals.{refusalNumber, verdictNumber, leftBy, demand, 
 use Rattle.image.specs.declared.WriteAnswer.{WriteAnswer}
 use Rattle.image.specs.declared.ReadAnswer.{ReadAnswer}
 use Rattle.image.specs.declared.ReadResult.{ReadResult}
-use Rattle.image.specs.Format.{imageOf}
+use Rattle.image.specs.Format.{isVersion, imageOf}
 use Rattle.image.specs.Reading.{Outcome, loaded, refused, readOf}
 
--- ---- the writer: version 1
+-- ---- the writer
 
--- 1, 2, 7
-unfoldable pub writeVerdict : (memory image out : List ℕ) → Verdict
-writeVerdict memory image out = memoryFits memory then demand (leb (length image) (length out)) ShortOutput
+-- 1, 2, 7, 11
+unfoldable pub writeVerdict : (memory : List ℕ) (version : ℕ) (image out : List ℕ) → Verdict
+writeVerdict memory version image out =
+    memoryFits memory then demand (leb (length image) (length out)) ShortOutput then demand (isVersion version) WrongVersion
 
 abbrev pub writeResult : Verdict → (image : List ℕ) → WriteAnswer
 writeResult Accepted image = WriteAnswer.Written (length image)
@@ -44,21 +45,21 @@ writeSize (WriteAnswer.Written size) = size
 writeSize (WriteAnswer.Refused why) = 0
 
 -- what a write returns, and the bytes that it leaves
-unfoldable pub writeReturned : (memory : List ℕ) → Machine → (out : List ℕ) → WriteAnswer
-writeReturned memory machine out =
-    let image = imageOf 1 machine memory in
-    writeResult (writeVerdict memory image out) image
+unfoldable pub writeReturned : (memory : List ℕ) → Machine → (version : ℕ) → (out : List ℕ) → WriteAnswer
+writeReturned memory machine version out =
+    let image = imageOf version machine memory in
+    writeResult (writeVerdict memory version image out) image
 
-unfoldable pub writeBytes : (memory : List ℕ) → Machine → (out : List ℕ) → List ℕ
-writeBytes memory machine out =
-    let image = imageOf 1 machine memory in
-    leftBy (writeVerdict memory image out) (overlay image out) out
+unfoldable pub writeBytes : (memory : List ℕ) → Machine → (version : ℕ) → (out : List ℕ) → List ℕ
+writeBytes memory machine version out =
+    let image = imageOf version machine memory in
+    leftBy (writeVerdict memory version image out) (overlay image out) out
 
-pub record Writes (memory : List ℕ) (machine : Machine) (out out′ : List ℕ) (r : WriteAnswer) : Type 0 where
-  pub result : r ≡ writeReturned memory machine out
-  pub bytes : out′ ≡ writeBytes memory machine out
-  pub number : writeNumber r ≡ verdictNumber (writeVerdict memory (imageOf 1 machine memory) out)
-  pub size : writeSize r ≡ verdictSize (writeVerdict memory (imageOf 1 machine memory) out) (imageOf 1 machine memory)
+pub record Writes (memory : List ℕ) (machine : Machine) (version : ℕ) (out out′ : List ℕ) (r : WriteAnswer) : Type 0 where
+  pub result : r ≡ writeReturned memory machine version out
+  pub bytes : out′ ≡ writeBytes memory machine version out
+  pub number : writeNumber r ≡ verdictNumber (writeVerdict memory version (imageOf version machine memory) out)
+  pub size : writeSize r ≡ verdictSize (writeVerdict memory version (imageOf version machine memory) out) (imageOf version machine memory)
 
 -- ---- the reader
 
@@ -67,7 +68,7 @@ abbrev pub clearedMachine : Machine
 clearedMachine = machineWith (replicate 8 0) noFlags
 
 abbrev pub readResult : Outcome → ReadResult
-readResult (loaded version machine words) = record { answer = ReadAnswer.Loaded (length words); machine = machine }
+readResult (loaded version machine words) = record { answer = ReadAnswer.Loaded (length words) version; machine = machine }
 readResult (refused why) = record { answer = ReadAnswer.Refused why; machine = clearedMachine }
 
 abbrev pub outcomeWords : Outcome → (memory : List ℕ) → List ℕ
@@ -80,7 +81,7 @@ outcomeNumber (loaded version machine words) = 0
 outcomeNumber (refused why) = refusalNumber why
 
 abbrev pub readNumber : ReadAnswer → ℕ
-readNumber (ReadAnswer.Loaded words) = 0
+readNumber (ReadAnswer.Loaded words version) = 0
 readNumber (ReadAnswer.Refused why) = refusalNumber why
 
 -- how many words were loaded: none by a refused read
@@ -89,8 +90,17 @@ outcomeCount (loaded version machine words) = length words
 outcomeCount (refused why) = 0
 
 abbrev pub readCount : ReadAnswer → ℕ
-readCount (ReadAnswer.Loaded words) = words
+readCount (ReadAnswer.Loaded words version) = words
 readCount (ReadAnswer.Refused why) = 0
+
+-- which version was read: 0 by a refused read
+abbrev pub outcomeVersion : Outcome → ℕ
+outcomeVersion (loaded version machine words) = version
+outcomeVersion (refused why) = 0
+
+abbrev pub readVersion : ReadAnswer → ℕ
+readVersion (ReadAnswer.Loaded words version) = version
+readVersion (ReadAnswer.Refused why) = 0
 
 -- what a read returns, and the memory that it leaves
 unfoldable pub readReturned : (bytes memory : List ℕ) → ReadResult
@@ -104,3 +114,4 @@ pub record Reads (bytes memory memory′ : List ℕ) (r : ReadResult) : Type 0 w
   pub words : memory′ ≡ readWords bytes memory
   pub number : readNumber (r .answer) ≡ outcomeNumber (readOf bytes (length memory))
   pub count : readCount (r .answer) ≡ outcomeCount (readOf bytes (length memory))
+  pub version : readVersion (r .answer) ≡ outcomeVersion (readOf bytes (length memory))

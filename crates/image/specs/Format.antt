@@ -1,7 +1,7 @@
 -- What an image is: its fields, what their values must be (11 to 14), and its bytes. Document 01, "Image" and "Why a call is
--- turned down".
+-- turned down"; CR 1.
 use Prim.Native.Nat.{ℕ, zero, suc, _+_, _-_, _*_, _/_}
-use mathlib.Core.Bool.{Bool, _&&_}
+use mathlib.Core.Bool.{Bool, _&&_, _||_}
 use mathlib.Core.List.{List, [], _∷_, _++_}
 use lib.Dec.{eqb, leb}
 use lib.ListN.{length, getD, take, drop}
@@ -27,9 +27,9 @@ fieldBytes f value = f .tag ∷ (bytesOf 2 (length value) ++ value)
 
 -- ---- the fields
 
--- the versions of an image
+-- CR 1: the versions of an image, which differ in their rule for traverses alone
 abbrev pub isVersion : ℕ → Bool
-isVersion version = eqb version 1
+isVersion version = eqb version 1 || eqb version 2
 
 -- a byte each for C, V, N, Z, 0 or 1
 abbrev pub flagsFormed : List ℕ → Bool

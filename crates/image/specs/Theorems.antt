@@ -1,5 +1,5 @@
 -- What holds of images and of the two calls: an image loads into the machine it was written from, and only what the writer can
--- produce is accepted (demand 2). Document 01, "Image" and "Why a call is turned down".
+-- produce is accepted (demand 2), in either version (CR 1). Document 01, "Image" and "Why a call is turned down".
 use Prim.Native.Nat.{ℕ, _+_, _*_, _^_, _≤_, _<_}
 use mathlib.Core.Path.{_≡_}
 use mathlib.Core.Bool.{true}
@@ -85,23 +85,23 @@ Size =
 
 -- ---- the two calls
 
--- what the writer wrote, the reader loads into the machine it was written from, and it leaves the words past it alone
+-- what the writer wrote, the reader loads as that version into the machine it was written from, and it leaves the words past it alone
 abbrev pub ReadBack : Type 0
 ReadBack =
-    (memory : List ℕ) (machine : Machine) (out out′ : List ℕ) (n : ℕ) (room room′ : List ℕ) (r : ReadResult)
+    (memory : List ℕ) (machine : Machine) (version : ℕ) (out out′ : List ℕ) (n : ℕ) (room room′ : List ℕ) (r : ReadResult)
     → length (machine .regs) ≡ 8 → Below (2 ^ 32) (machine .regs) → Below (2 ^ 32) memory
-    → Writes memory machine out out′ (WriteAnswer.Written n)
+    → Writes memory machine version out out′ (WriteAnswer.Written n)
     → length memory ≤ length room
     → Reads (take n out′) room room′ r
-    → (r ≡ record { answer = ReadAnswer.Loaded (length memory); machine = machine }) × (room′ ≡ overlay memory room)
+    → (r ≡ record { answer = ReadAnswer.Loaded (length memory) version; machine = machine }) × (room′ ≡ overlay memory room)
 
 -- what the reader loaded, the writer writes as the bytes that were read: it can produce all that is accepted
 abbrev pub WriteBack : Type 0
 WriteBack =
-    (bytes room room′ : List ℕ) (r : ReadResult) (n : ℕ) (out out′ : List ℕ) (w : WriteAnswer)
+    (bytes room room′ : List ℕ) (r : ReadResult) (n version : ℕ) (out out′ : List ℕ) (w : WriteAnswer)
     → Below 256 bytes
     → Reads bytes room room′ r
-    → r .answer ≡ ReadAnswer.Loaded n
+    → r .answer ≡ ReadAnswer.Loaded n version
     → length bytes ≤ length out
-    → Writes (take n room′) (r .machine) out out′ w
+    → Writes (take n room′) (r .machine) version out out′ w
     → (w ≡ WriteAnswer.Written (length bytes)) × (out′ ≡ overlay bytes out)

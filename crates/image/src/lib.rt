@@ -3,7 +3,7 @@ use model::Machine;
 use model::Refusal;
 ghost use mathlib.Core.Path.{_≡_};
 ghost use Prim.Native.Nat.{min};
-ghost use Rattle.image.specs.Format.{wordsPerField};
+ghost use Rattle.image.specs.Format.{isVersion, wordsPerField};
 
 pub const WORDS_PER_FIELD: usize = 1_024;
 
@@ -13,15 +13,22 @@ pub enum WriteAnswer {
     Refused(Refusal),
 }
 
-// Loaded: how many words the image has.
+// Loaded: how many words the image has, and its version.
 pub enum ReadAnswer {
-    Loaded(u32),
+    Loaded(u32, u32),
     Refused(Refusal),
 }
 
 pub struct ReadResult {
     pub answer: ReadAnswer,
     pub machine: Machine,
+}
+
+// Whether an image may have a version.
+pub fn is_version(version: u32) -> bool
+    ensures { λ r. ⌜ r ≡ isVersion version ⌝ }
+{
+    (version == 1) | (version == 2)
 }
 
 // How many of the words that are left the next tag-05 field takes.

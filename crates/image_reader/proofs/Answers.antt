@@ -19,11 +19,11 @@ use Rattle.model.proofs.Verdicts.{demanded, both}
 use Rattle.image.specs.declared.ReadAnswer.{ReadAnswer}
 use Rattle.image.specs.Format.{versionField, registersField, flagsField, countField, endField, countFormed, fieldsFor, spanOf}
 use Rattle.image.specs.Reading.{Outcome, loaded, refused, _▷_, fieldVerdict, readOf}
-use Rattle.image.specs.Calls.{clearedMachine, readResult, outcomeWords, outcomeNumber, outcomeCount, readNumber, readCount, readReturned, readWords, Reads}
+use Rattle.image.specs.Calls.{clearedMachine, readResult, outcomeWords, outcomeNumber, outcomeCount, outcomeVersion, readNumber, readCount, readVersion, readReturned, readWords, Reads}
 use Rattle.image.proofs.Fields.{facts}
 use Rattle.image.proofs.Memories.{fields-enough}
-use Rattle.image_reader.specs.Passes.{imageCount, imageMachine, imageMemory, headVerdict, memoryVerdict, endVerdict, tailVerdict, imageVerdict}
-use Rattle.image_reader.proofs.Passes.{imageVersion, imageWords, by-passes, length-image-memory}
+use Rattle.image_reader.specs.Passes.{imageVersion, imageCount, imageMachine, imageMemory, headVerdict, memoryVerdict, endVerdict, tailVerdict, imageVerdict}
+use Rattle.image_reader.proofs.Passes.{imageWords, by-passes, length-image-memory}
 
 -- what an accepted head shows of the word count
 pub head-accepted : (bytes : List ℕ) (room : ℕ) → headVerdict bytes room ≡ Accepted → (imageCount bytes ≤ mostWords) × (imageCount bytes ≤ room)
@@ -75,6 +75,7 @@ module _ (bytes memory : List ℕ) where
         words = w ∙ ap (λ (x : Outcome). outcomeWords x memory) e;
         number = numbered o ∙ ap outcomeNumber e;
         count = counted o ∙ ap outcomeCount e;
+        version = told o ∙ ap outcomeVersion e;
       }
     where
       numbered : (o : Outcome) → readNumber (readResult o .answer) ≡ outcomeNumber o
@@ -85,6 +86,10 @@ module _ (bytes memory : List ℕ) where
       counted (loaded version machine words) = refl
       counted (refused why) = refl
 
+      told : (o : Outcome) → readVersion (readResult o .answer) ≡ outcomeVersion o
+      told (loaded version machine words) = refl
+      told (refused why) = refl
+
   -- the outcome of a verdict
   outcome : (v : Verdict) → v ≡ imageVerdict bytes (length memory) → (v ▷ loaded (imageVersion bytes) (imageMachine bytes) (imageWords bytes)) ≡ readOf bytes (length memory)
   outcome v e = ap (λ (x : Verdict). x ▷ loaded (imageVersion bytes) (imageMachine bytes) (imageWords bytes)) e ∙ sym (by-passes bytes (length memory))
@@ -93,11 +98,11 @@ module _ (bytes memory : List ℕ) where
       → Reads bytes memory memory (record { answer = ReadAnswer.Refused why; machine = m })
   read-refused why m e p =
       let r = judged (refused why) memory (outcome (Refused why) e) refl in
-      record { result = (λ i. record { answer = ReadAnswer.Refused why; machine = p i }) ∙ r .result; words = r .words; number = r .number; count = r .count }
+      record { result = (λ i. record { answer = ReadAnswer.Refused why; machine = p i }) ∙ r .result; words = r .words; number = r .number; count = r .count; version = r .version }
 
-  pub read-carried : (memory′ : List ℕ) (n : ℕ) (m : Machine) → Accepted ≡ imageVerdict bytes (length memory) → n ≡ imageCount bytes → m ≡ imageMachine bytes
-      → memory′ ≡ sets memory 0 (imageMemory (fieldsFor n) n (drop 53 bytes)) → Reads bytes memory memory′ (record { answer = ReadAnswer.Loaded n; machine = m })
-  read-carried memory′ n m e c p q =
+  pub read-carried : (memory′ : List ℕ) (n version : ℕ) (m : Machine) → Accepted ≡ imageVerdict bytes (length memory) → n ≡ imageCount bytes → version ≡ imageVersion bytes → m ≡ imageMachine bytes
+      → memory′ ≡ sets memory 0 (imageMemory (fieldsFor n) n (drop 53 bytes)) → Reads bytes memory memory′ (record { answer = ReadAnswer.Loaded n version; machine = m })
+  read-carried memory′ n version m e c v p q =
       let M : ℕ = imageCount bytes in
       let l : length (imageWords bytes) ≡ M = length-image-memory (fieldsFor M) M (drop 53 bytes) (fields-enough M) in
       let fits : length (imageWords bytes) ≤ length memory = omega (arith, image-accepted bytes (length memory) (sym e) .1) in
@@ -106,8 +111,9 @@ module _ (bytes memory : List ℕ) where
       let r = judged (loaded (imageVersion bytes) (imageMachine bytes) (imageWords bytes)) memory′ (outcome Accepted e) w in
       let n≡ : n ≡ length (imageWords bytes) = c ∙ sym l in
       record {
-        result = (λ i. record { answer = ReadAnswer.Loaded (n≡ i); machine = p i }) ∙ r .result;
+        result = (λ i. record { answer = ReadAnswer.Loaded (n≡ i) (v i); machine = p i }) ∙ r .result;
         words = r .words;
         number = r .number;
         count = n≡ ∙ r .count;
+        version = v ∙ r .version;
       }

@@ -3,7 +3,7 @@ use Prim.Native.Nat.{ℕ, _+_}
 use mathlib.Core.Path.{_≡_, refl, sym, ap, ap₂, _∙_}
 use mathlib.Core.Bool.{Bool}
 use mathlib.Core.List.{List}
-use lib.Dec.{eqb, leb}
+use lib.Dec.{leb}
 use lib.ListN.{take, drop, getD}
 use lib.Seq.{getD-drop, drop-drop}
 use Rattle.model.specs.declared.Refusal.the-variants.{WrongVersion, BadFlag, BadWordCount, ShortMemory}
@@ -12,12 +12,12 @@ use Rattle.model.specs.Refusals.{demand, _then_}
 use Rattle.image.specs.Bytes.{numberIn}
 use Rattle.image.specs.Format.{versionField, registersField, flagsField, countField, isVersion, flagsFormed, countFormed}
 use Rattle.image.specs.Reading.{headerVerdict, fieldVerdict}
-use Rattle.image.proofs.Places.{one-byte, flags-take}
+use Rattle.image.proofs.Places.{flags-take}
 use Rattle.image.proofs.Headers.{without-rule}
-use Rattle.image_reader.specs.Passes.{imageCount, headVerdict}
+use Rattle.image_reader.specs.Passes.{imageVersion, imageCount, headVerdict}
 
-pub version-checked : (bytes : List ℕ) (v : ℕ) → v ≡ getD bytes 3 0 → demand (eqb v 1) WrongVersion ≡ versionField .rule (take 1 (drop 3 bytes))
-version-checked bytes v e = ap (λ (n : ℕ). demand (isVersion n) WrongVersion) (e ∙ sym (one-byte bytes 3))
+pub version-checked : (bytes : List ℕ) (v : ℕ) (t : Bool) → t ≡ isVersion v → v ≡ imageVersion bytes → demand t WrongVersion ≡ versionField .rule (take 1 (drop 3 bytes))
+version-checked bytes v t p e = ap (λ (x : Bool). demand x WrongVersion) (p ∙ ap isVersion e)
 
 -- a flag's byte, by its place in the image and in its field
 pub flag-at : (bytes : List ℕ) (i : ℕ) {x : ℕ} → x ≡ getD bytes (42 + i) 0 → x ≡ getD (drop 42 bytes) i 0

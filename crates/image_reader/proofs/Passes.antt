@@ -19,12 +19,9 @@ use Rattle.image.proofs.Places.{words-take, machine-take}
 use Rattle.image.proofs.Outcomes.{verdicts-join}
 use Rattle.image.proofs.Memories.{fields-enough}
 use Rattle.image.proofs.Stages.{endFrom, memoryFrom, countFrom, flagsFrom, registersFrom, in-stages}
-use Rattle.image_reader.specs.Passes.{imageCount, imageMachine, imageMemory, headVerdict, memoryVerdict, endVerdict, tailVerdict, imageVerdict}
+use Rattle.image_reader.specs.Passes.{imageVersion, imageCount, imageMachine, imageMemory, headVerdict, memoryVerdict, endVerdict, tailVerdict, imageVerdict}
 
--- the version and the words of an image, by place
-abbrev pub imageVersion : List ℕ → ℕ
-imageVersion bytes = numberIn (take 1 (drop 3 bytes))
-
+-- the words of an image, by place
 abbrev pub imageWords : List ℕ → List ℕ
 imageWords bytes = imageMemory (fieldsFor (imageCount bytes)) (imageCount bytes) (drop 53 bytes)
 

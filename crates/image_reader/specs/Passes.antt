@@ -33,6 +33,9 @@ pub record PairAt (bytes : List ℕ) (at r : ℕ) : Type 0 where
 --     M            46, value of 4 bytes at 49
 --     words        53, the first field of words
 
+abbrev pub imageVersion : List ℕ → ℕ
+imageVersion bytes = numberIn (take 1 (drop 3 bytes))
+
 abbrev pub imageMachine : List ℕ → Machine
 imageMachine bytes = machineFrom (drop 7 bytes) (drop 42 bytes)
 

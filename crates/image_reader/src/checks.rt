@@ -1,6 +1,7 @@
 // The first pass: whether the bytes are an image that the memory can hold.
 use super::bytes::byte_at;
 use super::bytes::pair_at;
+use image::is_version;
 use image::words_in_field;
 use model::Refusal;
 use model::Verdict;
@@ -13,7 +14,7 @@ ghost use lib.ListN.{drop};
 ghost use Rattle.model.specs.Refusals.{mostWords};
 ghost use Rattle.image.specs.Format.{versionField, flagsField, countField};
 ghost use Rattle.image.specs.Reading.{headerVerdict, fieldVerdict};
-ghost use Rattle.image_reader.specs.Passes.{imageCount, headVerdict, tailVerdict, imageVerdict};
+ghost use Rattle.image_reader.specs.Passes.{imageVersion, imageCount, headVerdict, tailVerdict, imageVerdict};
 
 // A field from a place on, but for its value: header cut, tag, length, value cut.
 fn header_verdict(bytes: &[u8], at: usize, tag: u32, due: u32) -> Verdict
@@ -36,11 +37,17 @@ fn header_verdict(bytes: &[u8], at: usize, tag: u32, due: u32) -> Verdict
     Verdict::Accepted
 }
 
+pub fn image_version(bytes: &[u8]) -> u32
+    ensures { λ r. ⌜ r ≡ imageVersion (now (bytes .entry)) ⌝ }
+{
+    byte_at(bytes, 3)
+}
+
 fn version_verdict(bytes: &[u8]) -> Verdict
     ensures { λ r. ⌜ r ≡ fieldVerdict versionField (now (bytes .entry)) ⌝ }
 {
     let header = header_verdict(bytes, 0, 1, 1);
-    let known = byte_at(bytes, 3) == 1;
+    let known = is_version(image_version(bytes));
     then(header, demand(known, Refusal::WrongVersion))
 }
 

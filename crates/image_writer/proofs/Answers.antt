@@ -1,6 +1,6 @@
 -- What the writer answers, by what it tests.
 use Prim.Native.Nat.{ℕ, _≤_, _<_}
-use mathlib.Core.Path.{_≡_, refl, sym, ap, ap₂, _∙_}
+use mathlib.Core.Path.{_≡_, refl, sym, ap, _∙_}
 use mathlib.Core.Bool.{Bool, true, false}
 use mathlib.Core.List.{List}
 use lib.Dec.{leb}
@@ -9,19 +9,19 @@ use lib.Seq.{sets}
 use borrow.Author.Tests.{le-leb, lt-leb}
 use Rattle.model.specs.declared.Machine.{Machine}
 use Rattle.model.specs.declared.Refusal.{Refusal}
-use Rattle.model.specs.declared.Refusal.the-variants.{ShortOutput}
+use Rattle.model.specs.declared.Refusal.the-variants.{ShortOutput, WrongVersion}
 use Rattle.model.specs.declared.Verdict.{Verdict}
 use Rattle.model.specs.declared.Verdict.the-variants.{Accepted, Refused}
 use Rattle.model.specs.Words.{overlay}
 use Rattle.model.specs.Refusals.{verdictNumber, leftBy, demand, _then_, memoryFits}
 use Rattle.model.proofs.Stores.{overlaid}
 use Rattle.image.specs.declared.WriteAnswer.{WriteAnswer}
-use Rattle.image.specs.Format.{imageOf}
+use Rattle.image.specs.Format.{isVersion, imageOf}
 use Rattle.image.specs.Calls.{writeVerdict, writeResult, writeNumber, verdictSize, writeSize, writeReturned, writeBytes, Writes}
 
-module _ (memory : List ℕ) (machine : Machine) (out : List ℕ) where
+module _ (memory : List ℕ) (machine : Machine) (version : ℕ) (out : List ℕ) where
   abbrev image : List ℕ
-  image = imageOf 1 machine memory
+  image = imageOf version machine memory
 
   numbered : (v : Verdict) → writeNumber (writeResult v image) ≡ verdictNumber v
   numbered Accepted = refl
@@ -32,7 +32,7 @@ module _ (memory : List ℕ) (machine : Machine) (out : List ℕ) where
   sized (Refused why) = refl
 
   -- the contract, from the verdict and what it asks of the output
-  judged : (v : Verdict) (out′ : List ℕ) → v ≡ writeVerdict memory image out → out′ ≡ leftBy v (overlay image out) out → Writes memory machine out out′ (writeResult v image)
+  judged : (v : Verdict) (out′ : List ℕ) → v ≡ writeVerdict memory version image out → out′ ≡ leftBy v (overlay image out) out → Writes memory machine version out out′ (writeResult v image)
   unfolding writeReturned writeBytes
   judged v out′ e o =
       record {
@@ -42,19 +42,23 @@ module _ (memory : List ℕ) (machine : Machine) (out : List ℕ) where
         size = sized v ∙ ap (λ (x : Verdict). verdictSize x image) e;
       }
 
-  -- the verdict with the two tests as they come out
-  tests : (v : Verdict) (t : Bool) → v ≡ memoryFits memory → leb (length image) (length out) ≡ t → (v then demand t ShortOutput) ≡ writeVerdict memory image out
+  -- the verdict with the three tests as they come out
+  tests : (v : Verdict) (t k : Bool) → v ≡ memoryFits memory → leb (length image) (length out) ≡ t → isVersion version ≡ k
+      → (v then demand t ShortOutput then demand k WrongVersion) ≡ writeVerdict memory version image out
   unfolding writeVerdict
-  tests v t p q = ap₂ (λ (x : Verdict) (b : Bool). x then demand b ShortOutput) p (sym q)
+  tests v t k p q s = λ i. p i then demand (sym q i) ShortOutput then demand (sym s i) WrongVersion
 
-  pub write-refused : {why : Refusal} → Refused why ≡ memoryFits memory → Writes memory machine out out (WriteAnswer.Refused why)
-  write-refused {why} e = judged (Refused why) out (tests (Refused why) _ e refl) refl
+  pub write-refused : {why : Refusal} → Refused why ≡ memoryFits memory → Writes memory machine version out out (WriteAnswer.Refused why)
+  write-refused {why} e = judged (Refused why) out (tests (Refused why) _ _ e refl refl) refl
 
   module _ (fits : Accepted ≡ memoryFits memory) where
-    pub write-no-room : length out < length image → Writes memory machine out out (WriteAnswer.Refused ShortOutput)
-    write-no-room s = judged (Refused ShortOutput) out (tests Accepted false fits (lt-leb _ _ s)) refl
+    pub write-no-room : length out < length image → Writes memory machine version out out (WriteAnswer.Refused ShortOutput)
+    write-no-room s = judged (Refused ShortOutput) out (tests Accepted false _ fits (lt-leb _ _ s) refl) refl
 
-    pub write-carried : (out′ : List ℕ) (n : ℕ) → length image ≤ length out → out′ ≡ sets out 0 image → n ≡ length image → Writes memory machine out out′ (WriteAnswer.Written n)
-    write-carried out′ n s p e =
-        let r = judged Accepted out′ (tests Accepted true fits (le-leb _ _ s)) (p ∙ overlaid out image s) in
+    pub write-no-version : length image ≤ length out → isVersion version ≡ false → Writes memory machine version out out (WriteAnswer.Refused WrongVersion)
+    write-no-version s k = judged (Refused WrongVersion) out (tests Accepted true false fits (le-leb _ _ s) k) refl
+
+    pub write-carried : (out′ : List ℕ) (n : ℕ) → length image ≤ length out → isVersion version ≡ true → out′ ≡ sets out 0 image → n ≡ length image → Writes memory machine version out out′ (WriteAnswer.Written n)
+    write-carried out′ n s k p e =
+        let r = judged Accepted out′ (tests Accepted true true fits (le-leb _ _ s) k) (p ∙ overlaid out image s) in
         record { result = ap WriteAnswer.Written e ∙ r .result; bytes = r .bytes; number = r .number; size = e ∙ r .size }

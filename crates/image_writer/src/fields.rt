@@ -78,15 +78,15 @@ fn put_memory(out: &mut [u8], start: usize, memory: &[u32])
     }
 }
 
-pub fn put_image(memory: &[u32], machine: Machine, out: &mut [u8])
+pub fn put_image(memory: &[u32], machine: Machine, version: u8, out: &mut [u8])
     requires { ⌜ (length (now memory) ≤ mostWords) × (56 + spanOf (length (now memory)) ≤ length (now out)) ⌝ }
-    ensures { λ _. ⌜ now (out .exit) ≡ sets (now (out .entry)) 0 (imageOf 1 machine (now (memory .entry))) ⌝ }
+    ensures { λ _. ⌜ now (out .exit) ≡ sets (now (out .entry)) 0 (imageOf version machine (now (memory .entry))) ⌝ }
 {
     let words = memory.len();
     let end = image_size(words) - 3;
     let regs = machine.regs;
     let flags = machine.flags;
-    put_four(out, 0, 1, 1, 0, 1); // tag 1, length 1, version 1
+    put_four(out, 0, 1, 1, 0, version); // tag 1, length 1
     put_registers(out, 4, regs);
     put_flags(out, 39, flags);
     put_count(out, 46, words as u32);

@@ -5,15 +5,16 @@ mod fields;
 use fields::image_size;
 use fields::put_image;
 use image::WriteAnswer;
+use image::is_version;
 use model::Machine;
 use model::Refusal;
 use model::Verdict;
 use refusals::memory_fits;
 ghost use Rattle.image.specs.Calls.{Writes};
 
-// Writes the version 1 image of a machine and its memory to the front of `out`.
-pub fn write(memory: &[u32], machine: Machine, out: &mut [u8]) -> WriteAnswer
-    ensures { λ r. ⌜ Writes (now (memory .entry)) machine (now (out .entry)) (now (out .exit)) r ⌝ }
+// Writes the image of a machine and its memory, as version 1 or 2, to the front of `out`.
+pub fn write(memory: &[u32], machine: Machine, version: u32, out: &mut [u8]) -> WriteAnswer
+    ensures { λ r. ⌜ Writes (now (memory .entry)) machine version (now (out .entry)) (now (out .exit)) r ⌝ }
 {
     match memory_fits(memory) {
         Verdict::Refused(why) => WriteAnswer::Refused(why),
@@ -22,7 +23,10 @@ pub fn write(memory: &[u32], machine: Machine, out: &mut [u8]) -> WriteAnswer
             if out.len() < size {
                 return WriteAnswer::Refused(Refusal::ShortOutput);
             }
-            put_image(memory, machine, out);
+            if !is_version(version) {
+                return WriteAnswer::Refused(Refusal::WrongVersion);
+            }
+            put_image(memory, machine, version as u8, out);
             WriteAnswer::Written(size)
         }
     }

@@ -1,19 +1,21 @@
--- Taking the journal's pairs back gives the memory from before the run.
+-- Taking pairs back: a journal's places are its list of pairs, and those of a run give the memory from before it, also once it is back.
 use Prim.Native.Nat.{ℕ, zero, suc, _+_, _-_, _*_, _≤_, _<_}
-use mathlib.Core.Path.{_≡_, refl, ap, ap₂, _∙_}
+use mathlib.Core.Path.{_≡_, refl, sym, ap, ap₂, _∙_}
 use mathlib.Core.Bool.{Bool, true, false, cond, _&&_}
 use mathlib.Core.List.{List, [], _∷_, _++_, append-nil, append-assoc}
 use native.Mathlib.Numerals.{add-one}
 use native.Mathlib.Omega.{arith}
+use lib.Dec.{eqb}
 use lib.ListN.{length, length-append}
-use lib.Seq.{getD-append-add, set-set, set-getD}
+use lib.Seq.{getD-append-add, set-set, set-comm, set-getD}
+use borrow.Author.Tests.{eqb-true, eqb-false}
 use Rattle.model.specs.Words.{wordAt, storeWord, alterable}
 use Rattle.model.specs.Board.{Board}
 use Rattle.model.specs.Operands.{inMemory}
 use Rattle.model.specs.Interpreter.{Run, opB, addressB, aluOut, isStored, execute, stop, advance, interpret}
 use Rattle.model.specs.Journal.{Pair, storedBy, journalPairs, journalWords}
 use Rattle.model.proofs.Runs.{one-more, words-length, words-append}
-use Rattle.journal.specs.Undo.{undone}
+use Rattle.journal.specs.Undo.{undone, restored}
 
 pub undone-none : (k : ℕ) (journal memory : List ℕ) → k ≤ 0 → memory ≡ undone k journal memory
 unfolding undone
@@ -45,41 +47,87 @@ last-pair ps p rest memory =
     ap₂ (λ (i : ℕ) (j : List ℕ). undone i j memory) k w
     ∙ ap₂ (λ (a f : ℕ). undone (length ps) (journalWords ps ++ tail) (storeWord memory a f)) x y
 
--- one store, or none, or one that alters nothing, taken back
-taken-back : (ps : List Pair) (rest memory : List ℕ) (a x : ℕ) (s b v : Bool) →
-    let stored : List Pair = cond (s && b && v) (record { address = a; former = wordAt memory a } ∷ []) [] in
-    undone (length (ps ++ stored)) (journalWords (ps ++ stored) ++ rest) (cond s (cond b (cond v (storeWord memory a x) memory) memory) memory)
-    ≡ undone (length ps) (journalWords ps ++ (journalWords stored ++ rest)) memory
-unfolding journalWords
-taken-back ps rest memory a x true true true =
-    last-pair ps (record { address = a; former = wordAt memory a }) rest (storeWord memory a x)
-    ∙ ap (undone (length ps) (journalWords ps ++ (a ∷ wordAt memory a ∷ rest))) (set-set memory a x (wordAt memory a) ∙ set-getD memory a 0)
-taken-back ps rest memory a x true true false = rw append-nil
-taken-back ps rest memory a x true false v = rw append-nil
-taken-back ps rest memory a x false b v = rw append-nil
+-- a journal's places taken back are its list of pairs taken back
+taken-back : (before ps : List Pair) (rest memory : List ℕ)
+    → undone (length (before ++ ps)) (journalWords (before ++ ps) ++ rest) memory
+    ≡ undone (length before) (journalWords before ++ (journalWords ps ++ rest)) (restored ps memory)
+unfolding restored journalWords
+taken-back before [] rest memory = rw append-nil
+taken-back before (p ∷ ps) rest memory =
+    ap (λ (l : List Pair). undone (length l) (journalWords l ++ rest) memory) (sym (append-assoc before (p ∷ []) ps))
+    ∙ taken-back (before ++ p ∷ []) ps rest memory
+    ∙ last-pair before p (journalWords ps ++ rest) (restored ps memory)
+
+pub undone-restores : (ps : List Pair) (rest memory : List ℕ) → undone (length ps) (journalWords ps ++ rest) memory ≡ restored ps memory
+unfolding undone
+undone-restores ps rest memory = taken-back [] ps rest memory
+
+-- ---- a list of pairs
+
+pub restored-append : (ps qs : List Pair) (memory : List ℕ) → restored (ps ++ qs) memory ≡ restored ps (restored qs memory)
+unfolding restored
+restored-append [] qs memory = refl
+restored-append (p ∷ ps) qs memory = ap (λ (m : List ℕ). storeWord m (p .address) (p .former)) (restored-append ps qs memory)
+
+-- what stood at an address does not show where it is put back last
+covered : (ps : List Pair) (memory : List ℕ) (a w x : ℕ) → storeWord (restored ps (storeWord memory a w)) a x ≡ storeWord (restored ps memory) a x
+unfolding restored
+covered [] memory a w x = set-set memory a w x
+covered (p ∷ ps) memory a w x = go (eqb (p .address) a) refl (covered ps memory a w x)
+  where
+    go : (t : Bool) → eqb (p .address) a ≡ t → storeWord (restored ps (storeWord memory a w)) a x ≡ storeWord (restored ps memory) a x
+        → storeWord (storeWord (restored ps (storeWord memory a w)) (p .address) (p .former)) a x
+        ≡ storeWord (storeWord (restored ps memory) (p .address) (p .former)) a x
+    go true e less =
+        let q = eqb-true (p .address) a e in
+        rw q (set-set (restored ps (storeWord memory a w)) a (p .former) x ∙ less ∙ sym (set-set (restored ps memory) a (p .former) x))
+    go false e less =
+        let q = eqb-false (p .address) a e in
+        set-comm (restored ps (storeWord memory a w)) (p .address) a (p .former) x q ∙ ap (λ (m : List ℕ). storeWord m (p .address) (p .former)) less
+        ∙ sym (set-comm (restored ps memory) (p .address) a (p .former) x q)
+
+-- pairs that are taken back once more change nothing
+pub restored-again : (ps : List Pair) (memory : List ℕ) → restored ps (restored ps memory) ≡ restored ps memory
+unfolding restored
+restored-again [] memory = refl
+restored-again (p ∷ ps) memory =
+    covered ps (restored ps memory) (p .address) (p .former) (p .former)
+    ∙ ap (λ (m : List ℕ). storeWord m (p .address) (p .former)) (restored-again ps memory)
+
+-- ---- a run's pairs
+
+-- one store, or none, or one that alters nothing
+restored-store : (memory : List ℕ) (a x : ℕ) (s b v : Bool)
+    → restored (cond (s && b && v) (record { address = a; former = wordAt memory a } ∷ []) []) (cond s (cond b (cond v (storeWord memory a x) memory) memory) memory)
+    ≡ memory
+unfolding restored
+restored-store memory a x true true true = set-set memory a x (wordAt memory a) ∙ set-getD memory a 0
+restored-store memory a x true true false = refl
+restored-store memory a x true false v = refl
+restored-store memory a x false b v = refl
 
 module _ (board : Board) where
-  -- one instruction taken back
-  back-one : (ps : List Pair) (rest : List ℕ) (r : Run)
-      → undone (length (ps ++ storedBy (board .bottom) r)) (journalWords (ps ++ storedBy (board .bottom) r) ++ rest) (advance board r .memory)
-      ≡ undone (length ps) (journalWords ps ++ (journalWords (storedBy (board .bottom) r) ++ rest)) (r .memory)
-  unfolding storedBy execute stop
-  back-one ps rest r =
+  restored-one : (r : Run) → restored (storedBy (board .bottom) r) (advance board r .memory) ≡ r .memory
+  unfolding storedBy execute stop restored
+  restored-one r =
       let memory = r .memory in
       let m = r .machine in
-      let none = taken-back ps rest memory 0 0 false false false in
-      one-more board
-      (λ (x : Run). undone (length (ps ++ storedBy (board .bottom) r)) (journalWords (ps ++ storedBy (board .bottom) r) ++ rest) (x .memory)
-      ≡ undone (length ps) (journalWords ps ++ (journalWords (storedBy (board .bottom) r) ++ rest)) memory)
-      r
-      (λ e t. rw (e, t) (taken-back ps rest memory (addressB memory m) (aluOut memory m .result) (isStored memory m) (inMemory (opB memory m)) (alterable (board .bottom) (addressB memory m))))
-      (λ e t. rw (e, t) none)
-      (λ e. rw e none)
+      one-more board (λ (x : Run). restored (storedBy (board .bottom) r) (x .memory) ≡ memory) r
+      (λ e t. rw (e, t) (restored-store memory (addressB memory m) (aluOut memory m .result) (isStored memory m) (inMemory (opB memory m)) (alterable (board .bottom) (addressB memory m))))
+      (λ e t. rw (e, t))
+      (λ e. rw e)
 
   -- the whole run taken back
+  pub restored-run : (n : ℕ) (r : Run) → restored (journalPairs board n r) (interpret board n r .memory) ≡ r .memory
+  unfolding journalPairs interpret restored
+  restored-run zero r = refl
+  restored-run (suc n) r =
+      let i = interpret board n r in
+      restored-append (journalPairs board n r) (storedBy (board .bottom) i) (advance board i .memory)
+      ∙ ap (restored (journalPairs board n r)) (restored-one i)
+      ∙ restored-run n r
+
+  -- from its journal
   pub back : (n : ℕ) (r : Run) (rest : List ℕ)
       → undone (length (journalPairs board n r)) (journalWords (journalPairs board n r) ++ rest) (interpret board n r .memory) ≡ r .memory
-  unfolding journalPairs interpret undone
-  back zero r rest = refl
-  back (suc n) r rest =
-      back-one (journalPairs board n r) rest (interpret board n r) ∙ back n r (journalWords (storedBy (board .bottom) (interpret board n r)) ++ rest)
+  back n r rest = undone-restores (journalPairs board n r) rest (interpret board n r .memory) ∙ restored-run n r

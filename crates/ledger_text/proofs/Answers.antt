@@ -63,8 +63,8 @@ module _ {bytes memory memory₁ : List ℕ} {r : ReadResult} (h : Reads bytes m
       reported (refused why) (k .0) room put (k .1)
 
   -- an image that is run
-  module _ {count : ℕ} (e : r .answer ≡ ReadAnswer.Loaded count) (kept : length memory₁ ≡ length memory) where
-    l : Loads bytes memory memory₁ r count
+  module _ {count version : ℕ} (e : r .answer ≡ ReadAnswer.Loaded count version) (kept : length memory₁ ≡ length memory) where
+    l : Loads bytes memory memory₁ r count version
     l = loads h e
 
     pub within : count ≤ length memory₁
@@ -82,14 +82,14 @@ module _ {bytes memory memory₁ : List ℕ} {r : ReadResult} (h : Reads bytes m
         ∙ ap (λ (k : ℕ). drop k memory) (l .long)
 
     pub words-fit : (0 < length (take count memory₁)) × (length (take count memory₁) ≤ mostWords)
-    words-fit = rw first (loaded-fits (length memory) (l .version) (r .machine) (l .words) bytes (l .is))
+    words-fit = rw first (loaded-fits (length memory) version (r .machine) (l .words) bytes (l .is))
 
     pub report-carried : {out part out′ : List ℕ} {q : ℕ} → longestText ≤ length out → RunPuts (r .machine) (take count memory₁) out part out′ q
         → length part ≡ length (take count memory₁) → Reports bytes memory out (part ++ drop count memory₁) out′ (ReportAnswer.Text q)
     report-carried {part = part} room run same =
         let run′ = rw first at run in
         let size : length part ≡ count = same ∙ ap length first ∙ l .long in
-        reported (loaded (l .version) (r .machine) (l .words)) (l .is) room (run′ .text)
+        reported (loaded version (r .machine) (l .words)) (l .is) room (run′ .text)
         (ap (λ (x : List ℕ). part ++ x) (after ∙ ap (λ (k : ℕ). drop k memory) (sym size)) ∙ ap (λ (x : List ℕ). overlay x memory) (run′ .words))
 
 -- the report on as much of an input as is read, in the program's memory

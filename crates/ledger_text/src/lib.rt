@@ -33,7 +33,7 @@ pub fn report(bytes: &[u8], memory: &mut [u32], out: &mut [u8]) -> ReportAnswer
     let answer = result.answer;
     match answer {
         ReadAnswer::Refused(why) => ReportAnswer::Text(put_refused(out, why)),
-        ReadAnswer::Loaded(words) => {
+        ReadAnswer::Loaded(words, _) => {
             let count = words as usize;
             let machine = result.machine;
             ReportAnswer::Text(put_run(&mut memory[..count], machine, out))

@@ -8,7 +8,7 @@ use lib.Dec.{ltb, leb, leb·zero}
 use lib.ListN.{length}
 use borrow.Author.Tests.{ltb-true, lt-ltb, le-leb, leb-true}
 use Rattle.model.specs.declared.Refusal.{Refusal}
-use Rattle.model.specs.declared.Refusal.the-variants.{NoWords, TooManyWords, LongWaitList, BadGateState, TooManyInstructions, ShortJournal, ShortOutput, CutImage, WrongTag, WrongLength, WrongVersion, BadFlag, BadWordCount, ShortMemory, TrailingBytes, BottomTooHigh, ResetsNotRising}
+use Rattle.model.specs.declared.Refusal.the-variants.{NoWords, TooManyWords, LongWaitList, BadGateState, TooManyInstructions, ShortJournal, ShortOutput, CutImage, WrongTag, WrongLength, WrongVersion, BadFlag, BadWordCount, ShortMemory, TrailingBytes, TooManyFiles, FileMisplaced, WordsMismatched, BottomTooHigh, ResetsNotRising}
 use Rattle.model.specs.declared.Verdict.{Verdict}
 use Rattle.model.specs.declared.Verdict.the-variants.{Accepted, Refused}
 use Rattle.model.specs.Waits.{positionFits}
@@ -69,6 +69,9 @@ numbered BadFlag = (omega arith, omega arith)
 numbered BadWordCount = (omega arith, omega arith)
 numbered ShortMemory = (omega arith, omega arith)
 numbered TrailingBytes = (omega arith, omega arith)
+numbered TooManyFiles = (omega arith, omega arith)
+numbered FileMisplaced = (omega arith, omega arith)
+numbered WordsMismatched = (omega arith, omega arith)
 numbered BottomTooHigh = (omega arith, omega arith)
 numbered ResetsNotRising = (omega arith, omega arith)
 

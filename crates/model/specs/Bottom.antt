@@ -21,7 +21,8 @@ use Rattle.model.specs.Refusals.{memoryFits, runVerdict, fileVerdict, ga
 
 -- ---- 21 directly after 2
 
--- every kind of run under the board is judged so, whatever its position, resets, state, journal and count
+-- a run, a file run, with whose reasons those of a traverse begin (CR 1), and a gate run under the board are judged so, whatever position,
+-- resets, state, journal and count
 pub record Judged (memory : List ℕ) (board : Board) (v : Verdict) : Type 0 where
   pub run : (position : ℕ) → runVerdict memory board position ≡ v
   pub file : (journal : List ℕ) (n : ℕ) → fileVerdict memory (board .bottom) journal n ≡ v

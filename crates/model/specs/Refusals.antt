@@ -1,5 +1,5 @@
 -- Why a call is turned down: the reasons' numbers, what a call leaves, the limits, and the first reason that applies to each run. Document
--- 01, "Why a call is turned down"; CR 3, CR 5, CR 6 and CR 7.
+-- 01, "Why a call is turned down"; CR 1, CR 3, CR 5, CR 6 and CR 7.
 use Prim.Native.Nat.{ℕ, _*_}
 use mathlib.Core.Bool.{Bool, true, false, cond, _&&_}
 use mathlib.Core.List.{List}
@@ -7,7 +7,7 @@ use lib.Dec.{eqb, ltb, leb}
 use lib.ListN.{length}
 use Rattle.model.specs.declared.GateState.{GateState}
 use Rattle.model.specs.declared.Refusal.{Refusal}
-use Rattle.model.specs.declared.Refusal.the-variants.{NoWords, TooManyWords, LongWaitList, BadGateState, TooManyInstructions, ShortJournal, ShortOutput, CutImage, WrongTag, WrongLength, WrongVersion, BadFlag, BadWordCount, ShortMemory, TrailingBytes, BottomTooHigh, ResetsNotRising}
+use Rattle.model.specs.declared.Refusal.the-variants.{NoWords, TooManyWords, LongWaitList, BadGateState, TooManyInstructions, ShortJournal, ShortOutput, CutImage, WrongTag, WrongLength, WrongVersion, BadFlag, BadWordCount, ShortMemory, TrailingBytes, TooManyFiles, FileMisplaced, WordsMismatched, BottomTooHigh, ResetsNotRising}
 use Rattle.model.specs.declared.Verdict.{Verdict}
 use Rattle.model.specs.declared.Verdict.the-variants.{Accepted, Refused}
 use Rattle.model.specs.Waits.{positionFits}
@@ -31,6 +31,9 @@ refusalNumber BadFlag = 12
 refusalNumber BadWordCount = 13
 refusalNumber ShortMemory = 14
 refusalNumber TrailingBytes = 15
+refusalNumber TooManyFiles = 16
+refusalNumber FileMisplaced = 17
+refusalNumber WordsMismatched = 18
 refusalNumber BottomTooHigh = 21
 refusalNumber ResetsNotRising = 22
 
@@ -91,7 +94,7 @@ accessFormed s = cond (s .begun) (isAccess (s .row) && ltb 0 (s .left)) (eqb (s 
 abbrev pub stateFits : (waits : List ℕ) → GateState → Verdict
 stateFits waits s = demand (leb (s .row) 12 && positionFits waits (s .position) && accessFormed s) BadGateState
 
--- 5 and 6, of a file run of n instructions
+-- 5 and 6, of a file run of n instructions, or a traverse of n words and instructions (CR 1)
 abbrev pub journalFits : List ℕ → ℕ → Verdict
 journalFits journal n =
     demand (leb n mostInstructions) TooManyInstructions then demand (leb (2 * n) (length journal)) ShortJournal

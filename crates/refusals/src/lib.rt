@@ -27,6 +27,9 @@ pub fn refusal_number(why: Refusal) -> u32
         Refusal::BadWordCount => 13,
         Refusal::ShortMemory => 14,
         Refusal::TrailingBytes => 15,
+        Refusal::TooManyFiles => 16,
+        Refusal::FileMisplaced => 17,
+        Refusal::WordsMismatched => 18,
         Refusal::BottomTooHigh => 21,
         Refusal::ResetsNotRising => 22,
     }

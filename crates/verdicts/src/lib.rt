@@ -16,7 +16,7 @@ ghost use mathlib.Core.Path.{_≡_};
 ghost use Rattle.model.specs.Board.{boardWith};
 ghost use Rattle.model.specs.Refusals.{bottomFits, waitsFit, resetsFit, startFits, stateFits, journalFits, runVerdict, fileVerdict, gateVerdict};
 
-// The most entries of a wait list, and instructions of a file run.
+// The most entries of a wait list, and instructions of a file run, or words and instructions of a traverse.
 const MOST_WAITS: usize = 65_536;
 
 const MOST_INSTRUCTIONS: u32 = 65_536;
@@ -62,7 +62,7 @@ fn state_fits(waits: &[u16], s: GateState) -> Verdict
     )
 }
 
-// Reasons 5 and 6, of a file run of `count` instructions.
+// Reasons 5 and 6, of a file run of `count` instructions, or a traverse of as many words and instructions.
 fn journal_fits(journal: &[u32], count: u32) -> Verdict
     ensures { λ r. ⌜ r ≡ journalFits (now (journal .entry)) count ⌝ }
 {

@@ -25,6 +25,18 @@ mod raw {
             count: u32,
             result: *mut u64,
         ) -> u32;
+        pub fn baseline_traverse(
+            memory: *mut u32,
+            memory_words: usize,
+            bottom: u32,
+            journal: *mut u32,
+            words: *const u32,
+            files: *const u32,
+            files_places: usize,
+            machine: *mut u32,
+            version: u32,
+            result: *mut u64,
+        ) -> u32;
         pub fn baseline_gate_run(
             memory: *mut u32,
             memory_words: usize,
@@ -48,6 +60,7 @@ mod raw {
             memory: *const u32,
             memory_words: usize,
             machine: *const u32,
+            version: u32,
             out: *mut u8,
             result: *mut u64,
         ) -> u32;
@@ -66,7 +79,8 @@ mod raw {
 // Safety of all calls: the slices are borrowed for the call, and the bench lends
 // what the baselines expect without checking it: a machine of 12 words or a
 // state of 21, enough result places, enough room for journal and output, list
-// positions within their lists, reset lists that rise, and good images only.
+// positions within their lists, reset lists that rise, and good traverses and images
+// only.
 
 pub fn run(
     memory: &mut [u32],
@@ -108,6 +122,33 @@ pub fn file_run(
             journal.as_mut_ptr(),
             machine.as_mut_ptr(),
             count,
+            result.as_mut_ptr(),
+        )
+    }
+}
+
+#[allow(clippy::too_many_arguments)] // As many as the library has.
+pub fn traverse(
+    memory: &mut [u32],
+    bottom: u32,
+    journal: &mut [u32],
+    words: &[u32],
+    files: &[u32],
+    machine: &mut [u32],
+    version: u32,
+    result: &mut [u64],
+) -> u32 {
+    unsafe {
+        raw::baseline_traverse(
+            memory.as_mut_ptr(),
+            memory.len(),
+            bottom,
+            journal.as_mut_ptr(),
+            words.as_ptr(),
+            files.as_ptr(),
+            files.len(),
+            machine.as_mut_ptr(),
+            version,
             result.as_mut_ptr(),
         )
     }
@@ -155,12 +196,19 @@ pub fn image_read(
     }
 }
 
-pub fn image_write(memory: &[u32], machine: &[u32], out: &mut [u8], result: &mut [u64]) -> u32 {
+pub fn image_write(
+    memory: &[u32],
+    machine: &[u32],
+    version: u32,
+    out: &mut [u8],
+    result: &mut [u64],
+) -> u32 {
     unsafe {
         raw::baseline_image_write(
             memory.as_ptr(),
             memory.len(),
             machine.as_ptr(),
+            version,
             out.as_mut_ptr(),
             result.as_mut_ptr(),
         )

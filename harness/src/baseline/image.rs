@@ -3,14 +3,21 @@
 use fm8502::library::DONE;
 
 const WORDS_PER_FIELD: usize = 1_024;
-/// Where the registers, the flags, the word count and the first words stand.
+/// Where the version, the registers, the flags, the word count and the first words stand.
+const VERSION: usize = 3;
 const REGISTERS: usize = 7;
 const FLAGS: usize = 42;
 const COUNT: usize = 49;
 const WORDS: usize = 53;
 
-pub fn image_write(memory: &[u32], machine: &[u32], out: &mut [u8], result: &mut [u64]) -> u32 {
-    out[..REGISTERS].copy_from_slice(&[1, 1, 0, 1, 2, 32, 0]);
+pub fn image_write(
+    memory: &[u32],
+    machine: &[u32],
+    version: u32,
+    out: &mut [u8],
+    result: &mut [u64],
+) -> u32 {
+    out[..REGISTERS].copy_from_slice(&[1, 1, 0, version as u8, 2, 32, 0]);
     put_words(&machine[..8], &mut out[REGISTERS..]);
     out[REGISTERS + 32..FLAGS].copy_from_slice(&[3, 4, 0]);
     put_flags(&machine[8..], &mut out[FLAGS..]);
@@ -60,12 +67,14 @@ pub fn image_read(
     get_words(&bytes[REGISTERS..], &mut machine[..8]);
     get_flags(&bytes[FLAGS..], &mut machine[8..]);
     get_fields(&bytes[WORDS..], &mut memory[..words]);
-    result[0] = words as u64;
+    result.copy_from_slice(&[words as u64, u64::from(bytes[VERSION])]);
     DONE
 }
 
 fn check_headers(bytes: &[u8], words: usize) {
-    assert_eq!(bytes[..REGISTERS], [1, 1, 0, 1, 2, 32, 0]);
+    assert_eq!(bytes[..VERSION], [1, 1, 0]);
+    assert!(matches!(bytes[VERSION], 1 | 2));
+    assert_eq!(bytes[VERSION + 1..REGISTERS], [2, 32, 0]);
     let mut at = WORDS;
     let mut due = words;
     while due > 0 {

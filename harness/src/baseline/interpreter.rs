@@ -7,7 +7,7 @@ use super::word_unit::word_unit;
 use super::HALTING_BITS;
 use fm8502::library::{DONE, HALTED, STOPPED};
 
-struct Engine<'a, const WAITS: bool, const JOURNAL: bool> {
+pub(super) struct Engine<'a, const WAITS: bool, const JOURNAL: bool> {
     carry: bool,
     overflow: bool,
     negative: bool,
@@ -23,10 +23,10 @@ struct Engine<'a, const WAITS: bool, const JOURNAL: bool> {
 }
 
 /// Instructions that ran, their clocks, and the run's code.
-struct Ran {
-    count: u32,
+pub(super) struct Ran {
+    pub count: u32,
     clocks: u64,
-    code: u32,
+    pub code: u32,
 }
 
 pub fn run(
@@ -83,13 +83,11 @@ pub fn file_run(
         engine.give(&registers, machine);
         return DONE;
     }
-    for pair in engine.journal[..filled].rchunks_exact(2) {
-        engine.memory[pair[0] as usize] = pair[1];
-    }
+    engine.take_back(0);
     STOPPED
 }
 
-fn registers_of(machine: &[u32]) -> [u32; 8] {
+pub(super) fn registers_of(machine: &[u32]) -> [u32; 8] {
     let mut registers = [0; 8];
     registers.copy_from_slice(&machine[..8]);
     registers
@@ -97,7 +95,7 @@ fn registers_of(machine: &[u32]) -> [u32; 8] {
 
 impl<'a, const WAITS: bool, const JOURNAL: bool> Engine<'a, WAITS, JOURNAL> {
     #[inline(always)]
-    fn new(
+    pub(super) fn new(
         machine: &[u32],
         memory: &'a mut [u32],
         bottom: u32,
@@ -119,14 +117,51 @@ impl<'a, const WAITS: bool, const JOURNAL: bool> Engine<'a, WAITS, JOURNAL> {
     }
 
     #[inline(always)]
-    fn give(&self, registers: &[u32; 8], machine: &mut [u32]) {
-        let flags = [self.carry, self.overflow, self.negative, self.zero];
+    pub(super) fn give(&self, registers: &[u32; 8], machine: &mut [u32]) {
         machine[..8].copy_from_slice(registers);
-        machine[8..].copy_from_slice(&flags.map(u32::from));
+        machine[8..].copy_from_slice(&self.flags().map(u32::from));
     }
 
     #[inline(always)]
-    fn run(&mut self, registers: &mut [u32; 8], count: u32) -> Ran {
+    pub(super) fn flags(&self) -> [bool; 4] {
+        [self.carry, self.overflow, self.negative, self.zero]
+    }
+
+    #[inline(always)]
+    pub(super) fn set_flags(&mut self, flags: [bool; 4]) {
+        [self.carry, self.overflow, self.negative, self.zero] = flags;
+    }
+
+    /// Places of the journal that are filled.
+    #[inline(always)]
+    pub(super) fn filled(&self) -> usize {
+        self.filled
+    }
+
+    /// Puts the words back that were journaled from the place `from` on, last first.
+    #[inline(always)]
+    pub(super) fn take_back(&mut self, from: usize) {
+        for pair in self.journal[from..self.filled].rchunks_exact(2) {
+            self.memory[pair[0] as usize] = pair[1];
+        }
+    }
+
+    /// Lays words from the address `place` on; each is journaled as a store is.
+    #[inline(always)]
+    pub(super) fn lay(&mut self, place: usize, words: &[u32]) {
+        let cells = &mut self.memory[place..place + words.len()];
+        let end = self.filled + 2 * words.len();
+        let pairs = self.journal[self.filled..end].chunks_exact_mut(2);
+        for (i, ((cell, &word), pair)) in cells.iter_mut().zip(words).zip(pairs).enumerate() {
+            pair[0] = (place + i) as u32;
+            pair[1] = *cell;
+            *cell = word;
+        }
+        self.filled = end;
+    }
+
+    #[inline(always)]
+    pub(super) fn run(&mut self, registers: &mut [u32; 8], count: u32) -> Ran {
         let mut ran = Ran {
             count: 0,
             clocks: 0,

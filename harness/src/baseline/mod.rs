@@ -8,6 +8,7 @@ mod image;
 mod interpreter;
 mod of_reference;
 mod operand;
+mod traverse;
 mod word_unit;
 
 use fm8502::library;
@@ -17,13 +18,15 @@ type Run = fn(&mut [u32], u32, &[u16], u32, &mut [u32], u32, &mut [u64]) -> u32;
 type FileRun = fn(&mut [u32], u32, &mut [u32], &mut [u32], u32, &mut [u64]) -> u32;
 type GateRun = fn(&mut [u32], u32, &[u16], &[u64], &mut [u32], u64, &mut [u64]) -> u32;
 type ImageRead = fn(&[u8], &mut [u32], &mut [u32], &mut [u64]) -> u32;
-type ImageWrite = fn(&[u32], &[u32], &mut [u8], &mut [u64]) -> u32;
+type ImageWrite = fn(&[u32], &[u32], u32, &mut [u8], &mut [u64]) -> u32;
+type Traverse = fn(&mut [u32], u32, &mut [u32], &[u32], &[u32], &mut [u32], u32, &mut [u64]) -> u32;
 
 /// One emulator.
 pub struct Contender {
     pub name: &'static str,
     pub run: Run,
     pub file_run: FileRun,
+    pub traverse: Traverse,
     pub gate_run: GateRun,
     pub image_read: ImageRead,
     pub image_write: ImageWrite,
@@ -35,6 +38,7 @@ pub const CONTENDERS: [Contender; 4] = [
         name: "proved",
         run: library::run,
         file_run: library::file_run,
+        traverse: library::traverse,
         gate_run: library::gate_run,
         image_read: library::image_read,
         image_write: library::image_write,
@@ -43,6 +47,7 @@ pub const CONTENDERS: [Contender; 4] = [
         name: "reference",
         run: of_reference::run,
         file_run: of_reference::file_run,
+        traverse: of_reference::traverse,
         gate_run: of_reference::gate_run,
         image_read: of_reference::image_read,
         image_write: of_reference::image_write,
@@ -51,6 +56,7 @@ pub const CONTENDERS: [Contender; 4] = [
         name: "Rust",
         run: interpreter::run,
         file_run: interpreter::file_run,
+        traverse: traverse::traverse,
         gate_run: gate_machine::gate_run,
         image_read: image::image_read,
         image_write: image::image_write,
@@ -59,6 +65,7 @@ pub const CONTENDERS: [Contender; 4] = [
         name: "C",
         run: c::run,
         file_run: c::file_run,
+        traverse: c::traverse,
         gate_run: c::gate_run,
         image_read: c::image_read,
         image_write: c::image_write,

@@ -1,7 +1,7 @@
 //! The reference emulator behind the library's calls on words.
 
 use crate::codes;
-use crate::words::{machine_of, machine_words, state_of, state_words};
+use crate::words::{files_of, machine_of, machine_words, state_of, state_words};
 use fm8502::library::DONE;
 use reference::image;
 
@@ -34,6 +34,25 @@ pub fn file_run(
     codes::of_file_run(ran.answer)
 }
 
+#[allow(clippy::too_many_arguments)] // As many as the library has.
+pub fn traverse(
+    memory: &mut [u32],
+    bottom: u32,
+    journal: &mut [u32],
+    laid: &[u32],
+    files: &[u32],
+    words: &mut [u32],
+    version: u32,
+    result: &mut [u64],
+) -> u32 {
+    let (files, start) = (files_of(files), machine_of(words));
+    let ran = reference::traverse(memory, bottom, journal, laid, &files, start, version);
+    words.copy_from_slice(&machine_words(&ran.machine));
+    let undone = codes::undone(ran.answer);
+    result.copy_from_slice(&[undone, u64::from(ran.ran), u64::from(ran.pairs)]);
+    codes::of_traverse(ran.answer)
+}
+
 pub fn gate_run(
     memory: &mut [u32],
     bottom: u32,
@@ -52,12 +71,18 @@ pub fn gate_run(
 pub fn image_read(bytes: &[u8], memory: &mut [u32], words: &mut [u32], result: &mut [u64]) -> u32 {
     let loaded = image::read(bytes, memory);
     words.copy_from_slice(&machine_words(&loaded.machine));
-    result[0] = u64::from(loaded.words);
+    result.copy_from_slice(&[u64::from(loaded.words), u64::from(loaded.version)]);
     codes::of_call(loaded.answer)
 }
 
-pub fn image_write(memory: &[u32], words: &[u32], out: &mut [u8], result: &mut [u64]) -> u32 {
-    match image::write(&machine_of(words), memory, out) {
+pub fn image_write(
+    memory: &[u32],
+    words: &[u32],
+    version: u32,
+    out: &mut [u8],
+    result: &mut [u64],
+) -> u32 {
+    match image::write(&machine_of(words), memory, version, out) {
         Ok(size) => {
             result[0] = size as u64;
             DONE

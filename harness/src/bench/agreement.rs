@@ -1,6 +1,7 @@
 //! Whether all contenders do the same, before anything is measured.
 
 use super::resets::FAR;
+use super::traverses::{self, Traverse};
 use super::workload::{
     generated, halting_with_resets, moves_loop, register_loop, reset_on_every_clock,
     stacking_above_bottom, stacking_loop, stacking_outside, stacking_with_resets, Workload,
@@ -11,6 +12,7 @@ use fm8502::library::{MACHINE_SIZE, STATE_SIZE};
 use reference::generate::program::any_program;
 use reference::generate::resets::resets;
 use reference::generate::state::gate_state;
+use reference::generate::traverse::traverse_case;
 use reference::image::image_size;
 use reference::rng::Rng;
 
@@ -20,7 +22,11 @@ pub fn check(starts: u64) {
     check_measured();
     check_resets();
     for words in [1, 2, 1_023, 1_024, 1_025, 2_048, 5_000] {
-        check_images(words);
+        check_images(words, 1);
+        check_images(words, 2);
+    }
+    for (traverse, _) in traverses::measured() {
+        check_traverse(&traverse);
     }
 }
 
@@ -43,6 +49,10 @@ fn check_starts(starts: u64) {
         check_gates(&workload, state_words(&state), 60);
         workload.resets = resets(&mut rng, &program, state, 60);
         check_gates(&workload, state_words(&state), 60);
+        check_traverse(&Traverse::generated(
+            &workload.name,
+            &traverse_case(&mut rng, &program),
+        ));
     }
 }
 
@@ -101,6 +111,28 @@ fn check_runs(start: &Workload, position: u32, count: u32) {
     });
 }
 
+/// Under both rules.
+fn check_traverse(start: &Traverse) {
+    for version in [1, 2] {
+        all_same(&format!("traverse, {}", start.name), |contender| {
+            let (mut memory, mut machine) = (start.memory.clone(), start.machine);
+            let mut journal = vec![7; start.places];
+            let mut result = [0; 3];
+            let code = (contender.traverse)(
+                &mut memory,
+                start.bottom,
+                &mut journal,
+                &start.words,
+                &start.files,
+                &mut machine,
+                version,
+                &mut result,
+            );
+            (code, memory, journal, machine, result)
+        });
+    }
+}
+
 fn check_gates(start: &Workload, state: [u32; STATE_SIZE], clocks: u64) {
     let (bottom, waits, resets) = (start.bottom, &start.waits, &start.resets);
     all_same(&format!("gate run, {}", start.name), |contender| {
@@ -112,7 +144,7 @@ fn check_gates(start: &Workload, state: [u32; STATE_SIZE], clocks: u64) {
     });
 }
 
-fn check_images(words: usize) {
+fn check_images(words: usize, version: u32) {
     let mut rng = Rng::new(words as u64);
     let memory: Vec<u32> = (0..words).map(|_| rng.word()).collect();
     let mut machine = [0; MACHINE_SIZE];
@@ -121,8 +153,8 @@ fn check_images(words: usize) {
     all_same(&format!("image of {words} words"), |contender| {
         let mut image = vec![7; image_size(words)];
         let mut size = [0];
-        (contender.image_write)(&memory, &machine, &mut image, &mut size);
-        let mut loaded = (vec![7; words], [7; MACHINE_SIZE], [0]);
+        (contender.image_write)(&memory, &machine, version, &mut image, &mut size);
+        let mut loaded = (vec![7; words], [7; MACHINE_SIZE], [0; 2]);
         (contender.image_read)(&image, &mut loaded.0, &mut loaded.1, &mut loaded.2);
         (image, size, loaded)
     });

@@ -4,7 +4,8 @@ use super::measure::{best, time, Task};
 use super::table::{heading, row};
 use super::workload::{register_loop, Workload};
 use super::Sizes;
-use fm8502::{library, GateState, Machine};
+use fm8502::library;
+use fm8502::{GateState, Machine};
 
 pub fn calls(sizes: Sizes) {
     let names = [

@@ -41,13 +41,13 @@ pub fn images(sizes: Sizes) -> Table {
 fn write(contender: &Contender, buffers: &mut Buffers) -> f64 {
     let Buffers { memory, image } = buffers;
     time(memory.len() as u64, || {
-        (contender.image_write)(memory, &[0; MACHINE_SIZE], image, &mut [0])
+        (contender.image_write)(memory, &[0; MACHINE_SIZE], 2, image, &mut [0])
     })
 }
 
 fn read(contender: &Contender, buffers: &mut Buffers) -> f64 {
     let Buffers { memory, image } = buffers;
     time(memory.len() as u64, || {
-        (contender.image_read)(image, memory, &mut [0; MACHINE_SIZE], &mut [0])
+        (contender.image_read)(image, memory, &mut [0; MACHINE_SIZE], &mut [0; 2])
     })
 }

@@ -8,6 +8,7 @@ mod measure;
 pub mod resets;
 pub mod runs;
 mod table;
+pub mod traverses;
 pub mod units;
 mod workload;
 

@@ -1,7 +1,7 @@
 //! Prints the proved emulator's speed as tables in Markdown.
 
 use harness::arguments::{numbers, value};
-use harness::bench::{agreement, calls, file_runs, images, resets, runs, Sizes};
+use harness::bench::{agreement, calls, file_runs, images, resets, runs, traverses, Sizes};
 
 const HELP: &str = "\
 Usage: bench [--rounds N] [--instructions N] [--clocks N] [--words N] [--calls N]
@@ -41,6 +41,7 @@ fn main() {
     let tables = [
         runs::interpreter(sizes),
         files,
+        traverses::traverses(sizes),
         runs::gate_machine(sizes),
         resets::resets(sizes),
         images::images(sizes),

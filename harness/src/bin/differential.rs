@@ -3,34 +3,46 @@
 use harness::arguments::{numbers, value};
 use harness::differential::{
     bottom, directed, gates, halting, images, limits, long, misfits, programs, refusals, resets,
-    sums, vectors, Check,
+    sums, traverse_borders, traverse_limits, traverses, vectors, Check,
 };
 use reference::rng::Rng;
 use std::process::exit;
 
 const HELP: &str = "\
-Usage: differential [--programs N] [--seed S] [--loops N] [--images N] [--states N]
+Usage: differential [--programs N] [--seed S] [--loops N] [--traverses N] [--images N]
+                    [--states N]
 
 Runs generated cases through the proved calls and through the reference
 emulator, and compares what they return and leave. Case i has seed S + i.
-Without numbers: 10000 programs, seed 1, a tenth as many images and states as
-programs, and a hundredth as many programs that loop.
+Without numbers: 10000 programs, seed 1, as many traverses as programs, a tenth as
+many images and states, and a hundredth as many programs that loop; of traverses on
+programs that loop there are as many as of these.
 ";
 
+const NAMES: [&str; 6] = [
+    "--programs",
+    "--seed",
+    "--loops",
+    "--traverses",
+    "--images",
+    "--states",
+];
+
 fn main() {
-    let given = numbers(
-        &["--programs", "--seed", "--loops", "--images", "--states"],
-        HELP,
-    );
+    let given = numbers(&NAMES, HELP);
     let programs = value(&given, "--programs", 10_000);
     let seed = value(&given, "--seed", 1);
     let loops = value(&given, "--loops", programs / 100);
+    let traverses = value(&given, "--traverses", programs);
     let images = value(&given, "--images", programs / 10);
     let states = value(&given, "--states", programs / 10);
 
     check_programs("programs", seed, programs, programs::check);
     check_programs("loops", seed, loops, programs::check_looping);
     check_long(seed);
+    check_traverses("--traverses", seed, traverses, traverses::check);
+    check_traverses("--loops", seed, loops, traverses::check_looping);
+    check_directed_traverses(seed);
     each(seed, states, "--states", gates::check_state);
     println!("{states} gate states agree, seed {seed}");
     check_images(seed, images);
@@ -86,6 +98,27 @@ fn check_long(seed: u64) {
         &format!("turning lists and full journals, --seed {seed}"),
     );
     println!("turning wait lists and full journals agree, seed {seed}: {tally}");
+}
+
+/// Each seed has a traverse under both rules, and two calls that may be refused.
+fn check_traverses(
+    option: &str,
+    seed: u64,
+    cases: u64,
+    check: impl Fn(&mut Rng, &mut traverses::Tally) -> Check,
+) {
+    let mut tally = traverses::Tally::default();
+    each(seed, cases, option, |rng| check(rng, &mut tally));
+    println!("{cases} traverses ({option}) agree, seed {seed}: {tally}");
+}
+
+fn check_directed_traverses(seed: u64) {
+    let mut tally = traverses::Tally::default();
+    let options = format!("directed traverses, --seed {seed}");
+    let mut rng = Rng::new(seed);
+    settle(traverse_borders::check(&mut rng, &mut tally), &options);
+    settle(traverse_limits::check(&mut rng, &mut tally), &options);
+    println!("directed traverses agree, seed {seed}: {tally}");
 }
 
 fn check_images(seed: u64, cases: u64) {

@@ -1,6 +1,7 @@
 //! Prints what the examples of the bindings must print: `example_text FOLDER`,
 //! the folder of the example images.
 
+use harness::example::line::parse_files;
 use harness::example::{text, Images};
 use std::fs;
 use std::path::PathBuf;
@@ -11,6 +12,7 @@ fn main() -> std::io::Result<()> {
         .split_whitespace()
         .map(|entry| entry.parse().expect("a number of 16 bits"))
         .collect();
+    let files = parse_files(&fs::read_to_string(folder.join("line.files"))?);
     let image = |name| fs::read(folder.join(name));
     let images = Images {
         stacking: image("stacking.image")?,
@@ -18,7 +20,8 @@ fn main() -> std::io::Result<()> {
         halted: image("halted.image")?,
         loader: image("loader.image")?,
         restart: image("restart.image")?,
+        line: image("line.image")?,
     };
-    print!("{}", text(&images, &waits));
+    print!("{}", text(&images, &waits, &files));
     Ok(())
 }

@@ -44,7 +44,7 @@ pub fn check(rng: &mut Rng, tally: &mut Tally) -> Result<usize, String> {
             programs::check_program(rng, program, &mut tally.programs)?;
         }
     }
-    let images = two_faults();
+    let images = [two_faults(), versions()].concat();
     for bytes in &images {
         images::check_image(rng, bytes, 4, &mut tally.images)?;
     }
@@ -125,15 +125,21 @@ fn one_instruction(instruction: Instruction, registers: [u32; 8], flags: Flags) 
 
 /// Two faults in one field: the tag comes before the length, the length before the value.
 fn two_faults() -> Vec<Vec<u8>> {
-    let good = to_bytes(&Machine::default(), &[0x0001_0021, 5]).expect("two words make an image");
-    [[0, 1], [4, 5], [39, 40], [47, 49], [1, 3], [40, 42]]
-        .iter()
-        .map(|places| {
-            let mut bytes = good.clone();
-            for &place in places {
-                bytes[place] ^= 0x40;
-            }
-            bytes
-        })
-        .collect()
+    let places = [[0, 1], [4, 5], [39, 40], [47, 49], [1, 3], [40, 42]];
+    places.map(|places| changed(&places, 0x40)).to_vec()
+}
+
+/// Every byte in the place of the version.
+fn versions() -> Vec<Vec<u8>> {
+    (0..=255).map(|mask| changed(&[3], mask)).collect()
+}
+
+/// An image with the bits of the mask changed in these bytes.
+fn changed(places: &[usize], mask: u8) -> Vec<u8> {
+    let image = to_bytes(&Machine::default(), &[0x0001_0021, 5], 1);
+    let mut bytes = image.expect("two words make an image");
+    for &place in places {
+        bytes[place] ^= mask;
+    }
+    bytes
 }

@@ -5,6 +5,7 @@ use super::outcome::Outcome;
 use crate::codes;
 use crate::words::{machine_words, state_words};
 use fm8502::library::MACHINE_SIZE;
+use reference::generate::traverse::TraverseCase;
 use reference::{image, GateState, Machine};
 
 pub fn run(
@@ -76,21 +77,42 @@ pub fn clock(memory: &[u32], bottom: u32, waits: &[u16], state: &mut GateState) 
     outcome
 }
 
-pub fn image_read(bytes: &[u8], memory: &[u32]) -> Outcome {
-    let mut outcome = Outcome::as_lent(memory, &[guard(); MACHINE_SIZE], 1);
-    let result = image::read(bytes, &mut outcome.memory);
-    outcome.code = codes::of_call(result.answer);
+pub fn traverse(case: &TraverseCase) -> Outcome {
+    let mut outcome = Outcome::as_lent(&case.memory, &machine_words(&case.start), 3);
+    outcome.journal = vec![guard(); case.places];
+    let result = reference::traverse(
+        &mut outcome.memory,
+        case.bottom,
+        &mut outcome.journal,
+        &case.words,
+        &case.files,
+        case.start,
+        case.version,
+    );
+    outcome.code = codes::of_traverse(result.answer);
     if outcome.carried_out() {
         outcome.words = machine_words(&result.machine).to_vec();
-        outcome.result = vec![u64::from(result.words)];
+        let undone = codes::undone(result.answer);
+        outcome.result = vec![undone, u64::from(result.ran), u64::from(result.pairs)];
     }
     outcome
 }
 
-pub fn image_write(memory: &[u32], machine: &Machine, room: usize) -> Outcome {
+pub fn image_read(bytes: &[u8], memory: &[u32]) -> Outcome {
+    let mut outcome = Outcome::as_lent(memory, &[guard(); MACHINE_SIZE], 2);
+    let result = image::read(bytes, &mut outcome.memory);
+    outcome.code = codes::of_call(result.answer);
+    if outcome.carried_out() {
+        outcome.words = machine_words(&result.machine).to_vec();
+        outcome.result = vec![u64::from(result.words), u64::from(result.version)];
+    }
+    outcome
+}
+
+pub fn image_write(memory: &[u32], machine: &Machine, version: u32, room: usize) -> Outcome {
     let mut outcome = Outcome::as_lent(memory, &machine_words(machine), 1);
     outcome.output = vec![guard(); room];
-    match image::write(machine, memory, &mut outcome.output) {
+    match image::write(machine, memory, version, &mut outcome.output) {
         Ok(size) => outcome.result = vec![size as u64],
         Err(refusal) => outcome.code = codes::refused(refusal),
     }

@@ -1,12 +1,17 @@
 //! Images, most of them damaged: read, and written again where they are good.
 
 use super::outcome::Outcome;
-use super::{expected, proved, same, Check};
+use super::{expected, proved, run_case, same, Check};
 use crate::text::{hex_bytes, hex_words};
 use reference::generate::image::{any_image, ImageCase};
 use reference::generate::program::any_program;
 use reference::image;
 use reference::rng::Rng;
+use reference::Machine;
+
+/// Of an image; and numbers that are no version, some of which are one in 8 or 16 bits.
+pub const VERSIONS: [u32; 2] = [1, 2];
+pub const NO_VERSIONS: [u32; 8] = [0, 3, 255, 257, 258, 65_537, 1 << 31 | 2, u32::MAX];
 
 /// How many images were read and how many of them were refused.
 #[derive(Default)]
@@ -35,14 +40,21 @@ pub fn check_lengths(rng: &mut Rng) -> Result<usize, String> {
     const LENGTHS: [usize; 9] = [1, 2, 1_023, 1_024, 1_025, 2_047, 2_048, 2_049, 4_096];
     for words in LENGTHS {
         let memory = any_words(rng, words);
-        let bytes =
-            image::to_bytes(&any_program(rng).start, &memory).expect("some words make an image");
-        for lent in [words, words + 1, words - 1] {
-            check_read(rng, &bytes, lent)?;
+        let start = any_program(rng).start;
+        for version in VERSIONS {
+            let bytes =
+                image::to_bytes(&start, &memory, version).expect("some words make an image");
+            check_length(rng, &bytes, words)?;
         }
-        check_written(rng, &bytes)?;
     }
-    Ok(LENGTHS.len())
+    Ok(LENGTHS.len() * VERSIONS.len())
+}
+
+fn check_length(rng: &mut Rng, bytes: &[u8], words: usize) -> Check {
+    for lent in [words, words + 1, words - 1] {
+        check_read(rng, bytes, lent)?;
+    }
+    check_written(rng, bytes)
 }
 
 fn any_words(rng: &mut Rng, count: usize) -> Vec<u32> {
@@ -62,24 +74,43 @@ fn check_read(rng: &mut Rng, bytes: &[u8], lent: usize) -> Result<bool, String> 
 }
 
 /// What the reader accepts is just what the writer makes of it, also into a
-/// longer output; a shorter one is refused.
+/// longer output; a shorter one is refused. Then as another version.
 fn check_written(rng: &mut Rng, bytes: &[u8]) -> Check {
     let mut memory = vec![0; bytes.len() / 4];
     let loaded = image::read(bytes, &mut memory);
     memory.truncate(loaded.words as usize);
+    let (machine, version) = (loaded.machine, loaded.version);
     let size = bytes.len();
     for room in [size, size + rng.between(1, 9), size - 1, rng.below(size)] {
-        let proved = proved::image_write(&memory, &loaded.machine, room);
-        let expected = expected::image_write(&memory, &loaded.machine, room);
-        let case = || format!("image {}\nroom {room} bytes\n", hex_bytes(bytes));
-        same("image write", &proved, &expected, case)?;
+        let proved = check_write(&memory, &machine, version, room)?;
         if room == size {
-            let expected = Outcome {
+            let written = Outcome {
                 output: bytes.to_vec(),
-                ..expected
+                ..proved.clone()
             };
-            same("image written again", &proved, &expected, case)?;
+            let case = || format!("image {}\n", hex_bytes(bytes));
+            same("image written again", &proved, &written, case)?;
         }
     }
+    let another = [3 - version, rng.pick(&NO_VERSIONS)];
+    for version in another {
+        check_write(&memory, &machine, version, size - rng.below(2))?;
+    }
     Ok(())
+}
+
+/// Into an output of so many bytes; returns the library's outcome.
+pub fn check_write(
+    memory: &[u32],
+    machine: &Machine,
+    version: u32,
+    room: usize,
+) -> Result<Outcome, String> {
+    let proved = proved::image_write(memory, machine, version, room);
+    let expected = expected::image_write(memory, machine, version, room);
+    same("image write", &proved, &expected, || {
+        let far = format_args!("version {version} room {room} bytes");
+        run_case(memory, 0, machine, &[], far)
+    })?;
+    Ok(proved)
 }

@@ -27,6 +27,13 @@ impl<T: Copy + PartialEq + From<u8>> Lent<T> {
         guards.into_iter().all(|&place| place == guard())
     }
 
+    /// Whether the guard places are as they were and the slice, lent to be read, is `lent`.
+    pub fn stayed(&self, lent: &[T]) -> bool {
+        // The compiler takes it that nobody writes to what is lent to be read.
+        std::hint::black_box(&self.places);
+        self.guarded() && self.content() == lent
+    }
+
     pub fn content(&self) -> Vec<T> {
         self.places[GUARDS..self.places.len() - GUARDS].to_vec()
     }

@@ -1,7 +1,7 @@
 //! The longest memory, and one word more; the same for its bottom.
 
 use super::{expected, proved, Check};
-use fm8502::library::{self, MACHINE_SIZE, STATE_SIZE};
+use fm8502::library::{self, FILE_SIZE, MACHINE_SIZE, STATE_SIZE};
 use reference::image::image_size;
 use reference::refusal::MOST_WORDS;
 use reference::Machine;
@@ -48,8 +48,8 @@ fn check_longest() -> Check {
 
 fn check_longest_image(mut memory: Vec<u32>, machine: &Machine) -> Check {
     let room = image_size(MOST_WORDS);
-    let written = proved::image_write(&memory, machine, room);
-    let equal = written == expected::image_write(&memory, machine, room);
+    let written = proved::image_write(&memory, machine, 2, room);
+    let equal = written == expected::image_write(&memory, machine, 2, room);
     agree("image write", equal)?;
     memory.fill(7);
     let loaded = proved::image_read(&written.output, &memory);
@@ -57,8 +57,8 @@ fn check_longest_image(mut memory: Vec<u32>, machine: &Machine) -> Check {
     agree("image read", equal && loaded.memory == written.memory)
 }
 
-/// The four runs, with every later reason to refuse them as well, but for 21 where the
-/// bottom is 0.
+/// The four runs and the traverse, with every later reason to refuse them as well, but for
+/// 21 where the bottom is 0.
 fn check_refused(words: usize, bottom: u32, due: u32) -> Check {
     let memory = &mut vec![0; words][..];
     let waits = &[0; 65_537][..];
@@ -66,7 +66,19 @@ fn check_refused(words: usize, bottom: u32, due: u32) -> Check {
     let (mut machine, mut state) = ([0; MACHINE_SIZE], [13; STATE_SIZE]);
     let (mut three, mut two, mut one) = ([7; 3], [7; 2], [7; 1]);
     let (machine_lent, state_lent) = (&mut machine, &mut state);
+    let files = &[u32::MAX; 65 * FILE_SIZE];
+    let traverse = library::traverse(
+        memory,
+        bottom,
+        &mut [],
+        &[],
+        files,
+        machine_lent,
+        0,
+        &mut three,
+    );
     let codes = [
+        traverse,
         library::run(memory, bottom, waits, position, machine_lent, 9, &mut three),
         library::file_run(memory, bottom, &mut [], machine_lent, 65_537, &mut two),
         library::gate_run(memory, bottom, waits, &[1, 1], state_lent, 9, &mut one),
@@ -76,7 +88,7 @@ fn check_refused(words: usize, bottom: u32, due: u32) -> Check {
         && machine == [0; MACHINE_SIZE]
         && state == [13; STATE_SIZE]
         && (three, two, one) == ([7; 3], [7; 2], [7; 1]);
-    if codes == [due; 4] && unchanged {
+    if codes == [due; 5] && unchanged {
         return Ok(());
     }
     Err(format!(
@@ -87,7 +99,7 @@ fn check_refused(words: usize, bottom: u32, due: u32) -> Check {
 fn check_too_long_image() -> Check {
     let memory = vec![0; MOST_WORDS + 1];
     let mut result = [7; 1];
-    let code = library::image_write(&memory, &[0; MACHINE_SIZE], &mut [], &mut result);
+    let code = library::image_write(&memory, &[0; MACHINE_SIZE], 3, &mut [], &mut result);
     if (code, result) == (TOO_MANY_WORDS, [7; 1]) {
         return Ok(());
     }

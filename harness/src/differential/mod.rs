@@ -18,6 +18,10 @@ pub mod refusals;
 pub mod resets;
 mod restarts;
 pub mod sums;
+mod taken_back;
+pub mod traverse_borders;
+pub mod traverse_limits;
+pub mod traverses;
 pub mod vectors;
 
 use crate::text::hex_bytes;
@@ -47,7 +51,7 @@ fn run_case(
     waits: &[u16],
     far: impl Display,
 ) -> String {
-    let image = match image::to_bytes(machine, memory) {
+    let image = match image::to_bytes(machine, memory, 1) {
         Ok(bytes) => hex_bytes(&bytes),
         Err(refusal) => format!("none, as the writer refuses it with {refusal}"),
     };

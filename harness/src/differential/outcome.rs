@@ -15,7 +15,7 @@ pub struct Outcome {
     pub journal: Vec<u32>,
     /// The output of the image writer.
     pub output: Vec<u8>,
-    /// Whether a place next to a lent slice was written.
+    /// Whether a place next to a lent slice was written, or one that is lent to be read.
     pub strayed: bool,
 }
 
@@ -50,7 +50,7 @@ impl fmt::Display for Outcome {
             writeln!(f, "  output {}", hex_bytes(&self.output))?;
         }
         if self.strayed {
-            writeln!(f, "  wrote next to what was lent")?;
+            writeln!(f, "  wrote next to what was lent, or to what is only read")?;
         }
         Ok(())
     }

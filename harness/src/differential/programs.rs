@@ -1,7 +1,7 @@
 //! Programs: runs, file runs, and gate runs around the clock total.
 
 use super::outcome::Outcome;
-use super::{expected, gates, proved, restarts, run_case, same, Check};
+use super::{expected, gates, proved, restarts, run_case, same, traverses, Check};
 use fm8502::library::{HALTED, STOPPED};
 use reference::generate::looping::looping_program;
 use reference::generate::program::{any_program, Program};
@@ -124,7 +124,8 @@ fn check_file_run(rng: &mut Rng, program: &Program, tally: &mut Tally) -> Check 
     Ok(())
 }
 
-/// With a journal of so many places; returns what is expected.
+/// With a journal of so many places, as a file run and as the traverse that it is (CR 1);
+/// returns what is expected.
 pub fn compare_file_run(program: &Program, places: usize) -> Result<Outcome, String> {
     let Program {
         memory,
@@ -139,5 +140,6 @@ pub fn compare_file_run(program: &Program, places: usize) -> Result<Outcome, Str
         let far = format_args!("count {count} journal {places} places");
         run_case(memory, *bottom, start, &[], far)
     })?;
+    traverses::check_file_run(program, places, &proved)?;
     Ok(expected)
 }

@@ -2,8 +2,9 @@
 
 use super::lent::{guard, Lent};
 use super::outcome::Outcome;
-use crate::words::{machine_words, state_words};
+use crate::words::{file_words, machine_words, state_words};
 use fm8502::library::{self, MACHINE_SIZE};
+use reference::generate::traverse::TraverseCase;
 use reference::{GateState, Machine};
 
 /// Everything that one call is lent.
@@ -151,8 +152,29 @@ pub fn clock(memory: &[u32], bottom: u32, waits: &[u16], state: &[u32]) -> Outco
     lent.after(code)
 }
 
+pub fn traverse(case: &TraverseCase) -> Outcome {
+    let mut lent = Buffers::new(&case.memory, &machine_words(&case.start), 3);
+    lent.journal = Lent::new(&vec![guard(); case.places]);
+    let files = file_words(&case.files);
+    let [mut words_lent, mut files_lent] = [&case.words, &files].map(|list| Lent::new(list));
+    let code = library::traverse(
+        lent.memory.slice(),
+        case.bottom,
+        lent.journal.slice(),
+        words_lent.slice(),
+        files_lent.slice(),
+        lent.words.slice(),
+        case.version,
+        lent.result.slice(),
+    );
+    let stayed = words_lent.stayed(&case.words) && files_lent.stayed(&files);
+    let mut outcome = lent.after(code);
+    outcome.strayed |= !stayed;
+    outcome
+}
+
 pub fn image_read(image: &[u8], memory: &[u32]) -> Outcome {
-    let mut lent = Buffers::new(memory, &[guard(); MACHINE_SIZE], 1);
+    let mut lent = Buffers::new(memory, &[guard(); MACHINE_SIZE], 2);
     let code = library::image_read(
         image,
         lent.memory.slice(),
@@ -163,12 +185,13 @@ pub fn image_read(image: &[u8], memory: &[u32]) -> Outcome {
 }
 
 /// The output has `room` bytes.
-pub fn image_write(memory: &[u32], machine: &Machine, room: usize) -> Outcome {
+pub fn image_write(memory: &[u32], machine: &Machine, version: u32, room: usize) -> Outcome {
     let mut lent = Buffers::new(memory, &machine_words(machine), 1);
     lent.output = Lent::new(&vec![guard(); room]);
     let code = library::image_write(
         lent.memory.slice(),
         lent.words.slice(),
+        version,
         lent.output.slice(),
         lent.result.slice(),
     );

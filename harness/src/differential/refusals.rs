@@ -1,6 +1,7 @@
 //! Calls that are refused for one reason or for several: which number comes first.
 
 use super::gates::{check_clocks, check_gate_run};
+use super::images::{self, NO_VERSIONS, VERSIONS};
 use super::{expected, programs, proved, run_case, same};
 use fm8502::library::{self, MACHINE_SIZE, STATE_SIZE, STOPPED};
 use reference::generate::program::{program, Kind, Program};
@@ -296,12 +297,12 @@ fn check_kept(
 fn check_write(memory: &[u32], start: &Machine) -> Result<usize, String> {
     let size = image_size(memory.len());
     let rooms = [0, 1, size - 1, size, size + 1];
-    for room in rooms {
-        let proved = proved::image_write(memory, start, room);
-        let expected = expected::image_write(memory, start, room);
-        same("image write", &proved, &expected, || {
-            run_case(memory, 0, start, &[], format_args!("room {room} bytes"))
-        })?;
+    let versions = VERSIONS.iter().chain(&NO_VERSIONS);
+    let calls = versions.flat_map(|&version| rooms.map(|room| (version, room)));
+    let mut made = 0;
+    for (version, room) in calls {
+        images::check_write(memory, start, version, room)?;
+        made += 1;
     }
-    Ok(rooms.len())
+    Ok(made)
 }

@@ -21,6 +21,7 @@ Options:
                        words not given are 0
   -r, --register N=HEX set register N (0 to 7); the others are 0
   -f, --flags CVNZ     set the flags, four digits 0 or 1, such as 1001; else 0000
+      --version N      make an image of version N, 1 or 2; else 1
   -o, --output FILE    write to FILE instead of standard output
   -h, --help           print this
 
@@ -33,6 +34,7 @@ struct Request {
     machine: Machine,
     words: Vec<u32>,
     length: Option<usize>,
+    version: Option<u32>,
     output: Option<String>,
     help: bool,
 }
@@ -64,6 +66,7 @@ fn parse(mut arguments: impl Iterator<Item = String>) -> Result<Request, String>
                 request.machine.registers[number] = word;
             }
             "-f" | "--flags" => request.machine.flags = flags(&value()?)?,
+            "--version" => request.version = Some(version(&value()?)?),
             "-o" | "--output" => request.output = Some(value()?),
             "-h" | "--help" => request.help = true,
             option if option.starts_with('-') => return Err(format!("unknown option {option}")),
@@ -89,7 +92,8 @@ fn carry_out(request: Request) -> Result<(), String> {
     if memory.is_empty() {
         return Err("no words given: an image has at least one".into());
     }
-    let bytes = image::to_bytes(&request.machine, &memory)
+    let version = request.version.unwrap_or(1);
+    let bytes = image::to_bytes(&request.machine, &memory, version)
         .map_err(|_| format!("more than {MOST_WORDS} words given"))?;
     write_image(&bytes, request.output.as_deref())
 }
@@ -135,6 +139,14 @@ fn memory_length(text: &str) -> Result<usize, String> {
         _ => Err(format!(
             "memory '{text}' is not a number from 1 to {MOST_WORDS}"
         )),
+    }
+}
+
+fn version(text: &str) -> Result<u32, String> {
+    match text {
+        "1" => Ok(1),
+        "2" => Ok(2),
+        _ => Err(format!("version '{text}' is neither 1 nor 2")),
     }
 }
 

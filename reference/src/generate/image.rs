@@ -62,7 +62,8 @@ pub fn image_case(rng: &mut Rng, damage: Damage) -> ImageCase {
         rng.between(1, 12)
     };
     let memory: Vec<u32> = (0..words).map(|_| rng.word()).collect();
-    let bytes = image::to_bytes(&machine(rng), &memory).expect("1 word or more");
+    let version = rng.between(1, 2) as u32;
+    let bytes = image::to_bytes(&machine(rng), &memory, version).expect("1 word or more");
     let mut case = ImageCase {
         damage,
         bytes,
@@ -91,7 +92,7 @@ fn apply(rng: &mut Rng, case: &mut ImageCase, words: usize) {
             let near = [byte.wrapping_sub(1), byte.wrapping_add(1), 0, 0x10, 0xFF];
             case.bytes[at] = other_than(rng, byte, &near);
         }
-        Damage::Version => case.bytes[VERSION_AT] = other_than(rng, 1, &[0, 2, 0x81, 0xFF]),
+        Damage::Version => case.bytes[VERSION_AT] = other_version(rng),
         Damage::FlagByte => {
             let at = FLAGS_AT + rng.below(4);
             case.bytes[at] = rng.pick(&[2, 3, 0x80, 0xFF]);
@@ -150,6 +151,16 @@ fn other_than(rng: &mut Rng, byte: u8, choices: &[u8]) -> u8 {
         byte ^ 0x40
     } else {
         new
+    }
+}
+
+/// Neither 1 nor 2; every other time next to them.
+fn other_version(rng: &mut Rng) -> u8 {
+    match rng.below(4) {
+        0 => 0,
+        1 => 3,
+        2 => rng.pick(&[0x81, 0x82, 0xFF]),
+        _ => rng.between(3, 0xFF) as u8,
     }
 }
 

@@ -7,6 +7,7 @@ use super::program::{data_word, tame_word, waits, Program};
 use crate::instruction::{Instruction, Operand};
 use crate::machine::{Flags, Machine};
 use crate::rng::Rng;
+use std::ops::Range;
 
 /// Instructions of a turn besides its body: four loads, and the three of its end.
 const AROUND_BODY: u32 = 4 + 3;
@@ -45,9 +46,20 @@ fn bottom(rng: &mut Rng, code: usize, length: usize) -> u32 {
     }
 }
 
+/// Words of the four loads.
+const LOADS: usize = 2 * 4;
+
 /// Words of the code with so many tame instructions.
 fn code_length(body: usize) -> usize {
-    2 * 4 + body + 6
+    LOADS + body + 6
+}
+
+/// Where a looping program has its tame instructions: up to the end of its turn, which is
+/// the only place that loads r4 again.
+pub(super) fn body(program: &Program) -> Range<usize> {
+    let code = &program.memory[LOADS..];
+    let end = code.iter().position(|&word| word == load(4));
+    LOADS..LOADS + end.expect("a turn has an end")
 }
 
 /// The code with so many tame instructions, the data, and the counter.

@@ -7,7 +7,7 @@ machine-lent-requires : tie.Need-machine-lent-requires
 machine-lent-requires c κs = search needs
 
 returns : tie.Need-returns
-returns c = write-misfit _ _ _ _ _ (c .before .before .machine-lent .ensures) (c .if1 .taken)
+returns c = write-misfit _ _ _ _ _ _ (c .before .before .machine-lent .ensures) (c .if1 .taken)
 
 write-requires : tie.Need-write-requires
 write-requires c κs = search needs
@@ -26,7 +26,7 @@ returns-2 c =
     let ended = c .before .before in
     let called = ended .before .before .before .before in
     let tested = called .before .before in
-    write-formed _ _ _ _ _ (tested .before .before .machine-lent .ensures) (tested .if1 .left) _ _ (called .write .ensures) _ _ (ended .end-write .ensures)
+    write-formed _ _ _ _ _ _ (tested .before .before .machine-lent .ensures) (tested .if1 .left) _ _ (called .write .ensures) _ _ (ended .end-write .ensures)
 
 pub fm8502-image-write-spec : {M : Type 1} → statement M
 fm8502-image-write-spec =

@@ -17,11 +17,14 @@ enum-known-answer-2 c = search needs
 put-machine-requires : tie.Need-put-machine-requires
 put-machine-requires c κs = search needs
 
-cast-put-one : tie.Need-cast-put-one
-cast-put-one c = search needs
+cast-put-two : tie.Need-cast-put-two
+cast-put-two c = search needs
 
-put-one-requires : tie.Need-put-one-requires
-put-one-requires c κs = search needs
+cast-put-two-2 : tie.Need-cast-put-two-2
+cast-put-two-2 c = search needs
+
+put-two-requires : tie.Need-put-two-requires
+put-two-requires c κs = search needs
 
 returns : tie.Need-returns
 returns c = ends-refused _ _ _ _ _ _ _ _ turned-down (c .before .before .answer .given .0 .0) (ap readNumber (c .before .before .answer .given .1)) _ (c .refusal-number .ensures)
@@ -35,7 +38,7 @@ same-length-2 c = search needs
 returns-2 : tie.Need-returns-2
 returns-2 c =
     let put = c .before .before .before .before .before .before in
-    read-done _ _ _ _ _ _ (put .before .before .before .answer2 .given .1) (put .put-machine .ensures) (c .before .before .put-one .ensures)
+    read-done _ _ _ _ _ _ _ (put .before .before .before .answer2 .given .1) (put .put-machine .ensures) (c .before .before .put-two .ensures)
 
 pub end-read-spec : {M : Type 1} → statement M
 end-read-spec =
@@ -45,8 +48,9 @@ end-read-spec =
     refusal-number-requires
     enum-known-answer-2
     put-machine-requires
-    cast-put-one
-    put-one-requires
+    cast-put-two
+    cast-put-two-2
+    put-two-requires
     returns
     same-length
     same-length-2

@@ -1,9 +1,8 @@
-use borrow.Author.Needs.{needs}
 use Rattle.refusals.proofs.demand.Statement.{statement}
 use Rattle.refusals.proofs.demand.Tie as tie
 
 returns : tie.Need-returns
-returns c = search needs
+returns c = rw (c .if1 .taken)
 
 returns-2 : tie.Need-returns-2
 returns-2 c = rw (c .if1 .left)

@@ -9,8 +9,11 @@ use Rattle.image_reader.proofs.checks.version_verdict.Tie as tie
 header-verdict-requires : tie.Need-header-verdict-requires
 header-verdict-requires c κs = search needs
 
-byte-at-requires : tie.Need-byte-at-requires
-byte-at-requires c κs = search needs
+image-version-requires : tie.Need-image-version-requires
+image-version-requires c κs = search needs
+
+is-version-requires : tie.Need-is-version-requires
+is-version-requires c κs = search needs
 
 demand-requires : tie.Need-demand-requires
 demand-requires c κs = search needs
@@ -20,11 +23,12 @@ then-requires c κs = search needs
 
 returns : tie.Need-returns
 returns c =
-    let bytes = c .before .before .before .before .before .args .bytes .now in
-    with-rule versionField bytes (c .then .ensures) (c .before .before .before .header-verdict .ensures)
-    (c .before .demand .ensures ∙ version-checked bytes _ (c .before .before .byte-at .ensures .is))
+    let told = c .before .before in
+    let bytes = told .before .before .before .before .args .bytes .now in
+    with-rule versionField bytes (c .then .ensures) (told .before .before .header-verdict .ensures)
+    (c .before .demand .ensures ∙ version-checked bytes _ _ (told .is-version .ensures) (told .before .image-version .ensures))
 
 pub version-verdict-spec : {M : Type 1} → statement M
 version-verdict-spec =
     tie.close
-    (tie.spec header-verdict-requires byte-at-requires demand-requires then-requires returns)
+    (tie.spec header-verdict-requires image-version-requires is-version-requires demand-requires then-requires returns)

@@ -50,7 +50,7 @@ returns c =
     let size = k₁ .before .before .before .before .image-size in
     let start = k₁ .before .before .before .before .before .before .before in
     let a = start .args in
-    image-put 1 (a .machine) (a .memory .now) (a .out .now) (k₁ .put-four .last .0) (k₂ .put-registers .last .0) (k₃ .put-flags .last .0)
+    image-put (a .version) (a .machine) (a .memory .now) (a .out .now) (k₁ .put-four .last .0) (k₂ .put-registers .last .0) (k₃ .put-flags .last .0)
     (k₄ .put-count .last .0) (k₅ .put-memory .last .0) _ _ (eight start) (omega (arith, size .ensures))
     (k₁ .put-four .ensures) (k₂ .put-registers .ensures) (k₃ .put-flags .ensures) (k₄ .put-count .ensures) (k₅ .put-memory .ensures) (k₆ .put-header .ensures)
 

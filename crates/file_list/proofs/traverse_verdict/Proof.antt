@@ -1,0 +1,42 @@
+use borrow.Author.Needs.{needs}
+use Rattle.traverses.specs.Calls.{traverseVerdict}
+use Rattle.file_list.proofs.Lists.{capped-fits}
+use Rattle.file_list.proofs.traverse_verdict.Statement.{statement}
+use Rattle.file_list.proofs.traverse_verdict.Tie as tie
+
+wanted-capped-requires : tie.Need-wanted-capped-requires
+wanted-capped-requires c κs = search needs
+
+file-verdict-requires : tie.Need-file-verdict-requires
+file-verdict-requires c κs = search needs
+
+files-fit-requires : tie.Need-files-fit-requires
+files-fit-requires c κs = search needs
+
+version-fits-requires : tie.Need-version-fits-requires
+version-fits-requires c κs = search needs
+
+then-requires : tie.Need-then-requires
+then-requires c κs = search needs
+
+then-requires-2 : tie.Need-then-requires-2
+then-requires-2 c κs = search needs
+
+returns : tie.Need-returns
+unfolding traverseVerdict
+returns c =
+    let fit = c .before .before .before in
+    let room = fit .before in
+    rw (c .then2 .ensures, c .before .then .ensures, c .before .before .version-fits .ensures, fit .files-fit .ensures, room .file-verdict .ensures, room .before .wanted-capped .ensures, capped-fits)
+
+pub traverse-verdict-spec : {M : Type 1} → statement M
+traverse-verdict-spec =
+    tie.close
+    (tie.spec
+    wanted-capped-requires
+    file-verdict-requires
+    files-fit-requires
+    version-fits-requires
+    then-requires
+    then-requires-2
+    returns)

@@ -1,0 +1,7 @@
+mod Laying
+mod Parts
+mod Filing
+mod Masks
+mod Walking
+mod Turns
+mod Answers
