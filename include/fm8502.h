@@ -5,7 +5,8 @@
  * What is lent. A call works on the caller's arrays for its duration and keeps
  * nothing. Each array passes as a pointer and a length in elements. It allocates
  * nothing, has no state of its own, and may be called from several threads on
- * different arrays.
+ * different arrays. fm8502_file_run and fm8502_traverse take some 200 KiB of the
+ * caller's stack.
  *
  * Every call ends, returns a code, and touches nothing but the arrays it is lent.
  * It looks at its arguments in this order: the machine's, state's and result's
@@ -33,13 +34,12 @@ extern "C" {
 /* ---- Limits and sizes */
 
 enum {
-    FM8502_MOST_WORDS = 16777216,     /* the longest memory */
-    FM8502_MOST_WAITS = 65536,        /* the longest wait list */
-    FM8502_MOST_INSTRUCTIONS = 65536, /* of a file run; of a traverse, words plus instructions */
-    FM8502_MOST_FILES = 64,           /* the most files of a traverse */
-    FM8502_MACHINE_SIZE = 12,         /* the words of a machine */
-    FM8502_STATE_SIZE = 21,           /* the words of a gate state */
-    FM8502_FILE_SIZE = 4              /* the places of a file of a traverse */
+    FM8502_MOST_WORDS = 16777216, /* the longest memory */
+    FM8502_MOST_WAITS = 65536,    /* the longest wait list */
+    FM8502_MOST_FILES = 64,       /* the most files of a traverse */
+    FM8502_MACHINE_SIZE = 12,     /* the words of a machine */
+    FM8502_STATE_SIZE = 21,       /* the words of a gate state */
+    FM8502_FILE_SIZE = 4          /* the places of a file of a traverse */
 };
 
 /* Bytes of the image of a memory of so many words. */
@@ -78,31 +78,37 @@ enum {
 /* ---- Codes */
 
 enum {
-    FM8502_DONE = 0,                  /* carried out; a run: "finished" */
+    FM8502_DONE = 0,               /* carried out; a run: "finished" */
     /* Refused: the numbers of the papers, documents 01 and 02. */
-    FM8502_NO_WORDS = 1,              /* the memory has no words */
-    FM8502_TOO_MANY_WORDS = 2,        /* the memory has more than 16,777,216 words */
-    FM8502_LONG_WAIT_LIST = 3,        /* the wait list has more than 65,536 entries */
-    FM8502_BAD_GATE_STATE = 4,        /* the row, the list position or the access is bad */
-    FM8502_TOO_MANY_INSTRUCTIONS = 5, /* more than 65,536 instructions in a file run, or words and instructions in a traverse */
-    FM8502_SHORT_JOURNAL = 6,         /* the journal has fewer than two places for each instruction, and each word of a traverse */
-    FM8502_SHORT_OUTPUT = 7,          /* the output is shorter than the image */
-    FM8502_CUT_IMAGE = 8,             /* the image ends inside a field or before its end field */
-    FM8502_WRONG_TAG = 9,             /* a tag is not the one due */
-    FM8502_WRONG_LENGTH = 10,         /* a length is not the one due */
-    FM8502_WRONG_VERSION = 11,        /* the version is neither 1 nor 2 */
-    FM8502_BAD_FLAG = 12,             /* a flag byte exceeds 1 */
-    FM8502_BAD_WORD_COUNT = 13,       /* the word count is 0 or above 16,777,216 */
-    FM8502_SHORT_MEMORY = 14,         /* the memory is shorter than the word count */
-    FM8502_TRAILING_BYTES = 15,       /* bytes follow the end field */
-    FM8502_TOO_MANY_FILES = 16,       /* the traverse has more than 64 files */
-    FM8502_FILE_MISPLACED = 17,       /* a file's place plus words exceeds the memory, or a word of it lies below the bottom */
-    FM8502_WORDS_MISMATCHED = 18,     /* the files' words do not add up to the list of words */
-    FM8502_BOTTOM_TOO_HIGH = 21,      /* the bottom exceeds the memory's length */
-    FM8502_RESETS_NOT_RISING = 22,    /* the reset list does not rise strictly */
-    FM8502_STOPPED = 100,             /* carried out: "outside", or "undone" for a file run, or a traverse under rule 2 */
-    FM8502_HALTED = 101,              /* carried out: "no instruction"; fm8502_run alone */
-    FM8502_MISFIT = 200               /* machine, state, result or files of another length than named */
+    FM8502_NO_WORDS = 1,           /* the memory has no words */
+    FM8502_TOO_MANY_WORDS = 2,     /* the memory has more than 16,777,216 words */
+    FM8502_LONG_WAIT_LIST = 3,     /* the wait list has more than 65,536 entries */
+    FM8502_BAD_GATE_STATE = 4,     /* the row, the list position or the access is bad */
+    FM8502_SHORT_OUTPUT = 7,       /* the output is shorter than the image */
+    FM8502_CUT_IMAGE = 8,          /* the image ends inside a field or before its end field */
+    FM8502_WRONG_TAG = 9,          /* a tag is not the one due */
+    FM8502_WRONG_LENGTH = 10,      /* a length is not the one due */
+    FM8502_WRONG_VERSION = 11,     /* the version is neither 1 nor 2 */
+    FM8502_BAD_FLAG = 12,          /* a flag byte exceeds 1 */
+    FM8502_BAD_WORD_COUNT = 13,    /* the word count is 0 or above 16,777,216 */
+    FM8502_SHORT_MEMORY = 14,      /* the memory is shorter than the word count */
+    FM8502_TRAILING_BYTES = 15,    /* bytes follow the end field */
+    FM8502_TOO_MANY_FILES = 16,    /* the traverse has more than 64 files */
+    FM8502_FILE_MISPLACED = 17,    /* a file's place plus words exceeds the memory, or a word of it lies below the bottom */
+    FM8502_WORDS_MISMATCHED = 18,  /* the files' words do not add up to the list of words */
+    FM8502_BOTTOM_TOO_HIGH = 21,   /* the bottom exceeds the memory's length */
+    FM8502_RESETS_NOT_RISING = 22, /* the reset list does not rise strictly */
+    FM8502_STOPPED = 100,          /* carried out: "outside", or "undone" for a file run, or a traverse under rule 2 */
+    FM8502_HALTED = 101,           /* carried out: "no instruction"; fm8502_run alone */
+    FM8502_JOURNAL_FULL = 102,     /* carried out: "journal full", for a file run, or a traverse under rule 2 */
+    FM8502_MISFIT = 200            /* machine, state, result or files of another length than named */
+};
+
+/* No longer given, or held to, since CR 11; the names stay so that programs which use them compile. */
+enum {
+    FM8502_TOO_MANY_INSTRUCTIONS = 5,
+    FM8502_SHORT_JOURNAL = 6,
+    FM8502_MOST_INSTRUCTIONS = 65536
 };
 
 /* ---- Calls
@@ -117,6 +123,13 @@ enum {
  * empty list (NULL, 0) means no waits.
  * version: 1 or 2, of an image and of a traverse: what a traverse takes back where one
  * of its files is undone. Rule 1: that file; rule 2: the whole traverse.
+ * journal: notes each address that is stored to once, in the order of the first stores.
+ * Pair i, from 0, has the address at journal[2 * i] and the word from before its first
+ * store at journal[2 * i + 1]; other places do not change. A store below bottom is not
+ * noted. A journal has any number of places, and half as many pairs, rounded down;
+ * (NULL, 0): none. Two places for each word of memory are always enough. The pairs' words,
+ * put back at their addresses, give the memory from before the file run, the traverse, or
+ * under rule 1 the last file.
  * machine_words is 12, state_words 21; result_places is named at each call.
  */
 
@@ -140,15 +153,13 @@ uint32_t fm8502_run(uint32_t *memory, size_t memory_words, uint32_t bottom, cons
                     size_t machine_words, uint32_t count, uint64_t *result, size_t result_places);
 
 /*
- * Runs up to count instructions, at most FM8502_MOST_INSTRUCTIONS, without waits.
- * Store number i to memory puts address and former word at journal[2 * i] and
- * journal[2 * i + 1]; other places do not change. A store below bottom has no
- * number and puts nothing. Where fm8502_run would stop or halt, memory goes back to
- * the start, machine is not written and the journal keeps its pairs (FM8502_STOPPED:
- * "undone").
- * journal: at least 2 * count places.
- * result, 2 places: instructions that ran, also if undone; pairs in the journal.
- * Codes: 0, 1, 2, 21, 5, 6, 100, 200.
+ * Runs up to count instructions, any number of 32 bits, without waits. Ends early where
+ * fm8502_run would stop or halt (FM8502_STOPPED: "undone"), and before a store that needs
+ * one address more than the journal has pairs (FM8502_JOURNAL_FULL: "journal full"; a
+ * missing word comes first). Then memory goes back to the start, machine is not written,
+ * and the journal keeps its pairs.
+ * result, 2 places: instructions that ran, also if undone or full; pairs in the journal.
+ * Codes: 0, 1, 2, 21, 100, 102, 200.
  */
 uint32_t fm8502_file_run(uint32_t *memory, size_t memory_words, uint32_t bottom,
                          uint32_t *journal, size_t journal_places, uint32_t *machine,
@@ -162,30 +173,30 @@ uint32_t fm8502_file_run(uint32_t *memory, size_t memory_words, uint32_t bottom,
  * many as the files have together.
  * For each file its words are laid in memory, the first at its place and the others
  * behind it; r0 becomes its entry; then up to its count of instructions run, as in
- * fm8502_file_run. The other registers, flags and memory go on from file to file. A laid
- * word is journaled as a store is, in the order of the words: address and former word,
- * with the next store number. Numbers go on through the traverse, so that pair i is at
- * journal[2 * i] and journal[2 * i + 1]; other places do not change.
- * A file is undone where fm8502_run would stop or halt in it. Its pairs stay in the
- * journal, and what it laid and stored is taken back:
+ * fm8502_file_run. The other registers, flags and memory go on from file to file. The
+ * journal notes a laid word as it does a store, in the order of the words.
+ * A file is undone where fm8502_run would stop or halt in it, and where a laid word or a
+ * store needs one address more than the journal has pairs: that word is not laid or stored,
+ * and nothing more of the file is laid or runs. What it laid and stored is taken back:
  * - Rule 1 (version 1): memory, registers (r0 too) and flags are as before its words were
- *   laid. The next file follows, and its pairs are numbered on after those of the undone
- *   file. machine is written at the end, also if every file was undone.
+ *   laid, and the next file follows. machine is written at the end, also if every file was
+ *   undone. Each file starts with the journal empty: the pairs are those of the last file,
+ *   and places past them keep what an earlier file wrote there.
  * - Rule 2 (version 2): memory goes back to the start of the traverse, machine is not
- *   written, and later files are not laid and do not run (FM8502_STOPPED: "undone").
+ *   written, and later files are not laid and do not run (FM8502_STOPPED: "undone", or
+ *   FM8502_JOURNAL_FULL: "journal full"). The pairs are those of all files together, also
+ *   of what was taken back.
  * A file's place plus its words is at most memory_words, also for a file of no words, and
- * a file that has words has its place at bottom or above (FM8502_FILE_MISPLACED).
- * The files' words plus instruction counts are at most FM8502_MOST_INSTRUCTIONS together,
- * and journal has at least two places for each of them. Sums are looked at as natural
- * numbers, over all files lent, however many, and do not go round.
+ * a file that has words has its place at bottom or above (FM8502_FILE_MISPLACED). Sums are
+ * natural numbers and do not go round.
  * A file run is the traverse, under either rule, of one file with no words at place 0,
- * whose entry is r0; it is undone where that file is.
+ * whose entry is r0; it is undone, or its journal full, where that file is.
  * result, 3 places: under rule 1 the undone files, bit i for file i, from 0; under rule 2
  * the number of the undone file, from 0, and 0 where all finished (the code tells
  * which); instructions that ran in the last file run, also if undone, and 0 with no
  * files; pairs in the journal.
- * Codes: 0 (under rule 1 whichever files were undone), 1, 2, 21, 5, 6, 16, 17, 18, 11,
- * 100 (rule 2), 200.
+ * Codes: 0 (under rule 1 whichever files were undone), 1, 2, 21, 16, 17, 18, 11, 100 and 102
+ * (rule 2), 200.
  */
 uint32_t fm8502_traverse(uint32_t *memory, size_t memory_words, uint32_t bottom,
                          uint32_t *journal, size_t journal_places, const uint32_t *words,

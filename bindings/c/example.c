@@ -26,7 +26,8 @@ enum {
     RESTARTED_SAMPLES = 4,
     FILES = 3, /* of line.files */
     MOST_FILE_WORDS = 32,
-    MOST_PLACES = 256, /* of their journal */
+    MOST_PLACES = 256, /* of a journal: two for each word of an example's memory, and more */
+    SHORT_PLACES = 17, /* too few for the files under rule 2 */
     FILE_COUNT = 0x0B,
     PROFILE = 0x0C
 };
@@ -41,11 +42,11 @@ typedef struct {
     uint32_t position;
 } Card;
 
-/* Files as the library takes them, with the journal's places that they need. */
+/* Files as the library takes them. */
 typedef struct {
     uint32_t files[FILES * FM8502_FILE_SIZE];
     uint32_t words[MOST_FILE_WORDS];
-    size_t count, words_length, journal_places;
+    size_t count, words_length;
 } Line;
 
 static FILE *open_file(const char *folder, const char *name, const char *mode) {
@@ -112,7 +113,6 @@ static void add_file(Line *line, const uint32_t *file, const uint32_t *words) {
     memcpy(line->words + line->words_length, words, 4 * length);
     line->count++;
     line->words_length += length;
-    line->journal_places += 2 * (length + file[FM8502_FILE_COUNT]);
 }
 
 /* The line's other files. */
@@ -145,7 +145,6 @@ static Line load_files(const char *folder) {
         read_numbers(text, words, length);
         add_file(&line, file, words);
     }
-    fail_unless(line.journal_places <= MOST_PLACES, "line.files: too many instructions");
     fclose(text);
     return line;
 }
@@ -193,15 +192,17 @@ static void run_gates(Card *card, const uint16_t *waits, size_t entries, const u
            (unsigned)state[FM8502_ROW]);
 }
 
-/* As run, but as a file, with a journal of 2 * INSTRUCTIONS places; returns its pairs. */
-static size_t run_file(Card *card, uint32_t *journal, uint32_t expected) {
+/* As run, but as a file, with a journal of so many places; returns its pairs. */
+static size_t run_file(const char *name, Card *card, uint32_t *journal, size_t places,
+                       uint32_t expected) {
     uint64_t result[2];
-    expect("file run",
-           fm8502_file_run(card->memory, card->words, card->bottom, journal, 2 * INSTRUCTIONS,
-                           card->machine, FM8502_MACHINE_SIZE, INSTRUCTIONS, result, 2),
+    expect(name,
+           fm8502_file_run(card->memory, card->words, card->bottom, journal, places, card->machine,
+                           FM8502_MACHINE_SIZE, INSTRUCTIONS, result, 2),
            expected);
-    printf("file run: %s, %llu instructions, %llu pairs\n",
-           expected == FM8502_STOPPED ? "undone" : "finished", (unsigned long long)result[0],
+    const char *told = expected == FM8502_STOPPED ? "undone" : "finished";
+    if (expected == FM8502_JOURNAL_FULL) told = "journal full";
+    printf("%s: %s, %llu instructions, %llu pairs\n", name, told, (unsigned long long)result[0],
            (unsigned long long)result[1]);
     return (size_t)result[1];
 }
@@ -226,16 +227,11 @@ static void stack(Card *card, const uint16_t *waits, size_t entries) {
 
 static void roll_back(Card *card) {
     Card former = *card;
-    uint32_t journal[2 * INSTRUCTIONS] = {0};
-    size_t pairs = run_file(card, journal, FM8502_STOPPED);
+    uint32_t journal[MOST_PLACES];
+    size_t pairs = run_file("file run", card, journal, MOST_PLACES, FM8502_STOPPED);
     print_words("journal", journal, 2 * pairs);
     printf("memory and machine as before: %s\n", alike(card, &former) ? "yes" : "no");
-
-    uint64_t result[2];
-    uint32_t code = fm8502_file_run(card->memory, card->words, card->bottom, journal, 9,
-                                    card->machine, FM8502_MACHINE_SIZE, INSTRUCTIONS, result, 2);
-    expect("file run", code, FM8502_SHORT_JOURNAL);
-    printf("short journal: refused %u\n", (unsigned)code);
+    run_file("short journal", card, journal, 5, FM8502_JOURNAL_FULL);
 }
 
 static void halt(Card *card, const uint16_t *waits, size_t entries) {
@@ -252,14 +248,14 @@ static void run_on_board(const Card *start, uint32_t bottom, const uint16_t *wai
     Card card = *start;
     card.bottom = bottom;
     Card gates = card, file = card;
-    uint32_t journal[2 * INSTRUCTIONS];
+    uint32_t journal[MOST_PLACES];
 
     printf("bottom %u\n", (unsigned)bottom);
     uint64_t clocks = run("run", &card, waits, entries, FM8502_DONE);
     print_words("loader", card.memory, LOADER_WORDS);
     print_words("accumulators", card.memory + LOADER_WORDS, LOADER_WORDS);
     run_gates(&gates, waits, entries, NULL, 0, clocks);
-    run_file(&file, journal, FM8502_DONE);
+    run_file("file run", &file, journal, MOST_PLACES, FM8502_DONE);
     /* A loader that was stored over leads outside. */
     memcpy(card.machine, start->machine, sizeof card.machine);
     card.position = 0;
@@ -340,13 +336,19 @@ static void rewrite(const Card *card) {
            (unsigned long long)size, (unsigned)again.version);
 }
 
-/* The code of a traverse of the line's files under the rule of a version. */
-static uint32_t traverse(Card *card, const Line *line, uint32_t version, uint64_t *result) {
+/* The code of a traverse of the line's files under the rule of a version, with a journal of so
+ * many places. */
+static uint32_t traverse(Card *card, const Line *line, size_t places, uint32_t version,
+                         uint64_t *result) {
     uint32_t journal[MOST_PLACES];
-    return fm8502_traverse(card->memory, card->words, card->bottom, journal, line->journal_places,
-                           line->words, line->words_length, line->files,
-                           line->count * FM8502_FILE_SIZE, card->machine, FM8502_MACHINE_SIZE,
-                           version, result, 3);
+    return fm8502_traverse(card->memory, card->words, card->bottom, journal, places, line->words,
+                           line->words_length, line->files, line->count * FM8502_FILE_SIZE,
+                           card->machine, FM8502_MACHINE_SIZE, version, result, 3);
+}
+
+static void print_undone(const char *what, const uint64_t *result) {
+    printf("%s in file %llu, %llu instructions, %llu pairs\n", what, (unsigned long long)result[0],
+           (unsigned long long)result[1], (unsigned long long)result[2]);
 }
 
 static void print_profile(const Card *by_file, const Card *whole) {
@@ -361,20 +363,22 @@ static void print_profile(const Card *by_file, const Card *whole) {
 
 /* One file of the line is undone: by rule 1 that file is taken back, by rule 2 the line. */
 static void take_back(const Card *start, const Line *line) {
-    Card by_file = *start, whole = *start, left = *start;
+    Card by_file = *start, whole = *start, full = *start, left = *start;
     uint64_t result[3];
-    expect("traverse", traverse(&by_file, line, 1, result), FM8502_DONE);
+    expect("traverse", traverse(&by_file, line, MOST_PLACES, 1, result), FM8502_DONE);
     printf("rule 1: undone %016llX, %llu instructions, %llu pairs\n",
            (unsigned long long)result[0], (unsigned long long)result[1],
            (unsigned long long)result[2]);
-    expect("traverse", traverse(&whole, line, 2, result), FM8502_STOPPED);
-    printf("rule 2: undone in file %llu, %llu instructions, %llu pairs\n",
-           (unsigned long long)result[0], (unsigned long long)result[1],
-           (unsigned long long)result[2]);
+    expect("traverse", traverse(&whole, line, MOST_PLACES, 2, result), FM8502_STOPPED);
+    printf("rule 2: ");
+    print_undone("undone", result);
+    expect("traverse", traverse(&full, line, SHORT_PLACES, 2, result), FM8502_JOURNAL_FULL);
+    printf("rule 2, %d places: ", SHORT_PLACES);
+    print_undone("journal full", result);
     print_profile(&by_file, &whole);
 
     Line alone = without_file(line, 1);
-    expect("traverse", traverse(&left, &alone, 1, result), FM8502_DONE);
+    expect("traverse", traverse(&left, &alone, MOST_PLACES, 1, result), FM8502_DONE);
     printf("rule 1 as files 0 and 2 alone: %s\n", alike(&by_file, &left) ? "yes" : "no");
     printf("rule 2 as before: %s\n", alike(&whole, start) ? "yes" : "no");
 }
@@ -384,7 +388,7 @@ static void run_line(Card *card, const Line *line) {
     rewrite(card);
     take_back(card, line);
     uint64_t result[3];
-    uint32_t code = traverse(card, line, 3, result);
+    uint32_t code = traverse(card, line, 0, 3, result);
     expect("traverse", code, FM8502_WRONG_VERSION);
     printf("version 3: refused %u\n", (unsigned)code);
 }

@@ -1,6 +1,6 @@
 """What the module refuses, how a wait list goes on, what a halting word does, what the bottom
-keeps, what a reset does, what a traverse takes back, which versions an image has, and that
-arrays are lent without a copy.
+keeps, what a reset does, when a journal is full, what a traverse takes back, which versions
+an image has, and that arrays are lent without a copy.
 
 numpy is looked at where it is installed.
 """
@@ -78,8 +78,12 @@ def check_shapes():
 def check_undone():
     """A file run that is undone, or refused, leaves the machine as it was, flags of 9 too."""
     memory, machine = array("I", PROGRAM), fm8502.Machine(flags=[9, 0, 9, 0])
-    assert not fm8502.file_run(memory, array("I", [0] * 6), machine, 3).finished
-    refuses(fm8502.Refused, "refused 6", fm8502.file_run, memory, array("I", [0]), machine, 3)
+    # Any number of instructions; what stores nothing needs no journal.
+    for count in (3, (1 << 32) - 1):
+        ran = fm8502.file_run(memory, array("I"), machine, count)
+        assert ran == fm8502.FileRun(finished=False, full=False, ran=2, pairs=0)
+    lent = memory, array("I"), machine, 3
+    refuses(fm8502.Refused, "refused 21", fm8502.file_run, *lent, bottom=3)
     assert machine == fm8502.Machine(flags=[9, 0, 9, 0])
     assert fm8502.run(memory, array("H"), machine, 1).finished
     assert machine.registers[:2] == [1, 1] and machine.flags == [True, False, True, False]
@@ -134,7 +138,8 @@ def check_halted():
     assert fm8502.gate_run(memory, waits, state, (1 << 64) - 1) == 1 and state.row == 12
     assert not fm8502.clock(memory, waits, state) and state.row == 12
     undone = fm8502.Machine()
-    assert fm8502.file_run(memory, array("I", [0] * 10), undone, 5) == fm8502.FileRun(False, 1, 0)
+    ran = fm8502.file_run(memory, array("I", [0] * 10), undone, 5)
+    assert ran == fm8502.FileRun(finished=False, full=False, ran=1, pairs=0)
     assert undone == fm8502.Machine()
     # The next word is missing: outside, and not halted.
     ran = fm8502.run(memory, waits, fm8502.Machine(registers=[2, 0, 0, 0, 0, 0, 0, 0]), 5)
@@ -182,7 +187,8 @@ def check_below_bottom():
     ran = fm8502.run(*lent[fm8502.run], bottom=4)
     assert ran == fm8502.Run(True, False, ran=1, clocks=21, position=0)
     assert fm8502.gate_run(*lent[fm8502.gate_run], bottom=4) == 1
-    assert fm8502.file_run(*lent[fm8502.file_run], bottom=4) == fm8502.FileRun(True, 1, pairs=0)
+    ran = fm8502.file_run(*lent[fm8502.file_run], bottom=4)
+    assert ran == fm8502.FileRun(True, False, ran=1, pairs=0)
     assert lent[fm8502.file_run][1].tolist() == [7, 7]
 
 
@@ -235,10 +241,48 @@ def storing_machine():
     return fm8502.Machine(registers=[0, 0, 3, 0, 0, 0, 0, 0], flags=[9, 0, 0, 0])
 
 
+def check_full():
+    """A journal is full before a store that needs one address more; an odd place is no pair."""
+    for places in (0, 1):
+        memory, machine = array("I", STORING), storing_machine()
+        journal = array("I", [7] * places)
+        ran = fm8502.file_run(memory, journal, machine, 1)
+        assert ran == fm8502.FileRun(finished=False, full=True, ran=0, pairs=0)
+        assert tuple(memory) == STORING and machine == storing_machine() and 7 * places == sum(journal)
+    # A second store to an address needs no pair of its own.
+    memory, journal = array("I", [STORING[0]] * 2 + [0, 41]), array("I", [7] * 3)
+    ran = fm8502.file_run(memory, journal, storing_machine(), 2)
+    assert ran == fm8502.FileRun(finished=True, full=False, ran=2, pairs=1)
+    assert memory[3] == 43 and journal.tolist() == [3, 41, 7]
+
+
+def traverse_with(places, files, rule):
+    """The answer, and what is left: the memory of STORING, the machine, and the journal."""
+    memory, machine, journal = array("I", STORING), storing_machine(), array("I", [7] * places)
+    ran = fm8502.traverse(memory, files, machine, rule, journal=journal)
+    return ran, tuple(memory), machine, journal.tolist()
+
+
+def check_full_traverse():
+    """A laid word needs a pair as a store does; per file the journal starts anew."""
+    # Two addresses: a word at 2, and one more at 3 by the instruction.
+    wide = (2, (7,), 0, 1)
+    ran, memory, machine, journal = traverse_with(3, [GOOD, wide], 2)
+    assert ran == fm8502.Traverse(False, True, undone=(1,), ran=0, pairs=1)
+    assert memory == STORING and machine == storing_machine() and journal == [3, 41, 7]
+    ran, memory, _, journal = traverse_with(3, [GOOD, wide], 1)
+    assert ran == fm8502.Traverse(False, False, undone=(1,), ran=0, pairs=1)
+    assert memory == (*STORING[:3], 8) and journal == [2, 0, 7]
+    # Past the last file's pair stands one of the file before it.
+    ran, memory, _, journal = traverse_with(5, [wide, GOOD], 1)
+    assert ran == fm8502.Traverse(True, False, undone=(), ran=1, pairs=1)
+    assert memory == (*STORING[:2], 7, 8) and journal == [3, 42, 3, 41, 7]
+
+
 def traverse_of(files, rule, **named):
     """The answer, and what is left: word 3 of STORING, the machine, and the journal's pairs."""
     memory, machine = array("I", STORING), storing_machine()
-    journal = array("I", [0] * fm8502.journal_places(files))
+    journal = array("I", [0] * fm8502.journal_places(files, len(memory)))
     ran = fm8502.traverse(memory, files, machine, rule, journal=journal, **named)
     assert memory[:3].tolist() == list(STORING[:3]) and not any(journal[2 * ran.pairs :])
     pairs = journal[: 2 * ran.pairs].tolist()
@@ -246,14 +290,14 @@ def traverse_of(files, rule, **named):
 
 
 def check_rule_1():
-    """An undone file is taken back and leaves its pairs; the next one follows."""
+    """An undone file is taken back, and the next one follows; the pairs are the last file's."""
     ran, word, machine, pairs = traverse_of([GOOD, UNDONE, GOOD], 1)
-    assert ran == fm8502.Traverse(False, undone=(1,), ran=1, pairs=5) and word == 8
+    assert ran == fm8502.Traverse(False, False, undone=(1,), ran=1, pairs=1) and word == 8
     assert machine == fm8502.Machine([1, 0, 3, 0, 0, 0, 0, 0], [True, False, False, False])
-    assert pairs == [(3, 41), (3, 7), (3, 8), (3, 8), (3, 7)]
+    assert pairs == [(3, 8)]
     ran, word, machine, pairs = traverse_of([GOOD, UNDONE], fm8502.Rule.PER_FILE)
-    assert ran == fm8502.Traverse(False, undone=(1,), ran=0, pairs=3) and word == 8
-    assert machine.registers[0] == 1 and pairs == [(3, 41), (3, 7), (3, 8)]
+    assert ran == fm8502.Traverse(False, False, undone=(1,), ran=0, pairs=1) and word == 8
+    assert machine.registers[0] == 1 and pairs == [(3, 8)]
     ran, word, machine, _ = traverse_of([UNDONE], 1)
     assert ran.undone == (0,) and word == 41 and machine.registers[0] == 0
     # The last of 64 files has the highest bit.
@@ -262,42 +306,45 @@ def check_rule_1():
 
 
 def check_rule_2():
-    """An undone file takes back the traverse, but its pairs stay; later files do not run."""
+    """An undone file takes back the traverse, but the pairs stay; later files do not run."""
     ran, word, machine, pairs = traverse_of([GOOD, UNDONE, GOOD], 2)
-    assert ran == fm8502.Traverse(False, undone=(1,), ran=0, pairs=3) and word == 41
-    assert machine == storing_machine() and pairs == [(3, 41), (3, 7), (3, 8)]
+    assert ran == fm8502.Traverse(False, False, undone=(1,), ran=0, pairs=1) and word == 41
+    assert machine == storing_machine() and pairs == [(3, 41)]
     # The first file by number, and no file.
     ran, word, machine, _ = traverse_of([UNDONE, GOOD], fm8502.Rule.PER_TRAVERSE)
     assert not ran.finished and ran.undone == (0,) and word == 41 and machine == storing_machine()
-    ran, word, machine, _ = traverse_of([GOOD, GOOD], 2)
-    assert ran == fm8502.Traverse(True, undone=(), ran=1, pairs=4) and word == 8
-    assert machine.registers[0] == 1
+    ran, word, machine, pairs = traverse_of([GOOD, GOOD], 2)
+    assert ran == fm8502.Traverse(True, False, undone=(), ran=1, pairs=1) and word == 8
+    assert machine.registers[0] == 1 and pairs == [(3, 41)]
 
 
 def check_files():
     """Registers go on, files may be none, and their words a part of the memory."""
     for rule in fm8502.Rule:
-        assert traverse_of([], rule)[0] == fm8502.Traverse(True, undone=(), ran=0, pairs=0)
+        assert traverse_of([], rule)[0] == fm8502.Traverse(True, False, undone=(), ran=0, pairs=0)
         memory, machine = array("I", PROGRAM), fm8502.Machine()
         files = [fm8502.File(place=0, words=memory[:1], entry=0, count=1)] * 3
         assert fm8502.traverse(memory, files, machine, rule).finished
         assert machine.registers[:2] == [1, 3]
         part = [(0, memoryview(memory)[1:], 0, 1)]
         assert fm8502.traverse(memory, part, machine, rule).finished and memory[0] == PROGRAM[1]
-    assert fm8502.journal_places([GOOD, UNDONE, (0, (), 0, 9)]) == 2 * (2 + 2 + 9)
+    # As many places as words and instructions can need, or words of memory.
+    for words, places in ((100, 2 * (2 + 2 + 9)), (4, 2 * 4)):
+        assert fm8502.journal_places([GOOD, UNDONE, (0, (), 0, 9)], words) == places
 
 
 def check_one_file():
     """A file run is the traverse of one file with no words at place 0, entered at r0."""
     for words, count in ((PROGRAM, 2), (PROGRAM, 3), (HALTING, 2), (STORING, 1), (STORING, 9)):
-        for rule, bottom in ((1, 0), (2, 0), (1, 1), (2, 2)):
+        for rule, bottom, places in ((1, 0, 8), (2, 0, 8), (1, 0, 1), (2, 0, 1), (1, 1, 8), (2, 2, 0)):
             start = fm8502.Machine(registers=[0, 0, 1, 0, 0, 0, 0, 0])
-            lent = array("I", words), array("I", [7] * 18), start
+            lent = array("I", words), array("I", [7] * places), start
             memory, journal, machine = copy.deepcopy(lent)
             ran = fm8502.file_run(*lent, count, bottom=bottom)
             files = [(0, (), 0, count)]
             same = fm8502.traverse(memory, files, machine, rule, bottom=bottom, journal=journal)
             assert (ran.finished, ran.ran, ran.pairs) == (same.finished, same.ran, same.pairs)
+            assert same.full == (ran.full and rule == fm8502.Rule.PER_TRAVERSE)
             assert lent == (memory, journal, machine)
 
 
@@ -310,39 +357,33 @@ def refuses_traverse(number, files, memory=STORING, rule=1, **named):
 
 
 def check_files_refused():
-    """Sums are of all files and do not go round; words lie in the memory, not below the bottom."""
-    top, most = (1 << 32) - 1, 65536
+    """Sums do not go round; words lie in the memory, not below the bottom."""
+    top, many = (1 << 32) - 1, 70_000
     refuses_traverse(1, [GOOD], memory=())
     refuses_traverse(21, [(0, (), 0, top)], bottom=5)
-    for files in (
-        [(0, (), 0, top)] * 2,
-        [(0, (), 0, 1024)] * 65,
-        [(0, [0] * (most + 1), 0, 0)],
-        [(0, [0] * most, 0, 1)],
-    ):
-        refuses_traverse(5, files)
-    refuses_traverse(6, [GOOD], journal=array("I", [0] * 3))
-    refuses_traverse(6, [(5, (), 0, 1)] * 65, journal=array("I", [0] * 129))
     refuses_traverse(16, [(5, (), 0, 1)] * 65)
-    for place, words in ((5, ()), (top, ()), (4, (1,)), (2, (1, 2, 3)), (top, (1,))):
+    for place, words in ((5, ()), (top, ()), (4, (1,)), (2, (1, 2, 3)), (top, (1,)), (0, [0] * many)):
         refuses_traverse(17, [GOOD, (place, words, 0, 0)], rule=3)
     refuses_traverse(17, [(2, (1,), 0, 0)], bottom=3)
     for rule in (0, 3, top):
         refuses_traverse(11, [GOOD], rule=rule)
     assert traverse_of([(4, (), 0, 0), (2, (), 0, 0), (3, (1,), 0, 0)], 1, bottom=3)[1] == 1
-    whole = array("I", bytes(4 * most))
-    ran = fm8502.traverse(whole, [(0, [5] * most, 0, 0)], fm8502.Machine(), 2)
-    assert ran == fm8502.Traverse(True, (), 0, pairs=most) and set(whole) == {5}
+    # Any number of instructions, and of words that lie in the memory.
+    assert traverse_of([(0, (), 0, top)] * 2, 1)[0].undone == (0, 1)
+    whole = array("I", bytes(4 * many))
+    ran = fm8502.traverse(whole, [(0, [5] * many, 0, 0)] * 2, fm8502.Machine(), 2)
+    assert ran == fm8502.Traverse(True, False, (), 0, pairs=many) and set(whole) == {5}
 
 
-def plain_traverse(memory, bottom, count, journal, files, place, joined, version, sizes=(0, 12, 3)):
+def plain_traverse(memory, bottom, files, place, joined, version, sizes=(0, 12, 3)):
     """The library's own call, whose list of words need not fit; of the files the first has a word.
 
     sizes: places behind the files, words of the machine, places of the result.
     """
     behind, machine, result = sizes
-    places = [place, 1, 0, count, *[0] * (4 * (files - 1) + behind)]
-    lent = memory, journal, array("I", [7] * joined), array("I", places), array("I", [9] * machine)
+    places = [place, 1, 0, 1, *[0] * (4 * (files - 1) + behind)]
+    lists = (array("I", numbers) for numbers in ([7] * 4, [7] * joined, places, [9] * machine))
+    lent = memory, *lists
     result, former = array("Q", [9] * result), copy.deepcopy(lent)
     memory, *lists, machine = (fm8502._lent(ctypes.c_uint32, words) for words in lent)
     board = fm8502._board(memory, bottom, *lists)
@@ -359,8 +400,6 @@ def check_traverse_order():
     lent = {
         "memory": array("I"),
         "bottom": 5,
-        "count": 65536,
-        "journal": array("I", [7] * 3),
         "files": 65,
         "place": 4,
         "joined": 2,
@@ -369,8 +408,6 @@ def check_traverse_order():
     for number, mended in (
         (1, {"memory": array("I", STORING)}),
         (21, {"bottom": 3}),
-        (5, {"count": 1}),
-        (6, {"journal": array("I", [7] * 4)}),
         (16, {"files": 64}),
         (17, {"place": 2}),
         (17, {"place": 3}),
@@ -440,7 +477,7 @@ def check_numpy():
     machine = fm8502.Machine(registers=[0, 0, 3, 0, 0, 0, 0, 0])
     assert fm8502.run(memory, waits, machine, 1).clocks == 21 and memory[3] == 42
     files = [(numpy.uint32(3), numpy.array([7], dtype=numpy.uint32), 0, 1)]
-    assert fm8502.traverse(memory, files, machine, 1).pairs == 2 and memory[3] == 8
+    assert fm8502.traverse(memory, files, machine, 1).pairs == 1 and memory[3] == 8
     for shape, error in (
         (memory.reshape(2, 2), "one dimension"),
         (memory[::2], "one behind the other"),
@@ -463,6 +500,8 @@ check_bottom()
 check_below_bottom()
 check_reset()
 check_reset_lists()
+check_full()
+check_full_traverse()
 check_rule_1()
 check_rule_2()
 check_files()

@@ -22,6 +22,8 @@ LOADER_WORDS = 4
 RESET = 1000
 FIRST_PART = 40
 RESTARTED_ACCUMULATORS = slice(0x14, 0x18)
+# places of a journal for line.files under rule 2: too few for the addresses that are stored to
+SHORT = 17
 # of line.image
 FILE_COUNT = 0x0B
 PROFILE = slice(0x0C, 0x0F)
@@ -60,11 +62,12 @@ def run_gates(memory, waits, machine, clocks, bottom=0, resets=()):
     return state
 
 
-def run_file(memory, machine, bottom=0):
-    journal = array("I", bytes(4 * 2 * INSTRUCTIONS))
+def run_file(memory, machine, places, bottom=0, name="file run"):
+    """With a journal of so many places, which is returned with the run."""
+    journal = array("I", bytes(4 * places))
     ran = fm8502.file_run(memory, journal, machine, INSTRUCTIONS, bottom=bottom)
-    ending = "finished" if ran.finished else "undone"
-    print(f"file run: {ending}, {ran.ran} instructions, {ran.pairs} pairs")
+    ending = "finished" if ran.finished else "journal full" if ran.full else "undone"
+    print(f"{name}: {ending}, {ran.ran} instructions, {ran.pairs} pairs")
     return ran, journal
 
 
@@ -80,14 +83,11 @@ def stack(memory, waits, machine):
 
 def roll_back(memory, machine):
     former = memory[:], copy.deepcopy(machine)
-    ran, journal = run_file(memory, machine)
+    ran, journal = run_file(memory, machine, 2 * len(memory))
     print("journal" + words(journal[: 2 * ran.pairs]))
     same = (memory, machine) == former
     print("memory and machine as before:", "yes" if same else "no")
-    try:
-        fm8502.file_run(memory, journal[:9], machine, INSTRUCTIONS)
-    except fm8502.Refused as refused:
-        print("short journal: refused", refused.number)
+    run_file(memory, machine, 5, name="short journal")
 
 
 def halt(memory, waits, machine):
@@ -106,7 +106,7 @@ def run_on_board(memory, waits, machine, bottom):
     print("loader" + words(left[:LOADER_WORDS]))
     print("accumulators" + words(left[LOADER_WORDS : 2 * LOADER_WORDS]))
     run_gates(memory[:], waits, copy.deepcopy(machine), ran.clocks, bottom)
-    run_file(memory[:], copy.deepcopy(machine), bottom)
+    run_file(memory[:], copy.deepcopy(machine), 2 * len(memory), bottom)
     run(left, waits, copy.deepcopy(machine), bottom, name="again")
 
 
@@ -160,11 +160,16 @@ def rewrite(memory, machine):
     print(f"written as version 1: {len(image)} bytes, read again as version {rule:d}")
 
 
-def traverse(memory, machine, files, rule):
+def traverse(memory, machine, files, rule, journal=None):
     """On a copy: the answer, and the memory and machine that are left."""
     left = memory[:], copy.deepcopy(machine)
-    journal = array("I", bytes(4 * fm8502.journal_places(files)))
     return fm8502.traverse(left[0], files, left[1], rule, journal=journal), left
+
+
+def print_whole(name, ran):
+    """The answer of a traverse that was taken back."""
+    what, file = "journal full" if ran.full else "undone", ran.undone[0]
+    print(f"{name}: {what} in file {file}, {ran.ran} instructions, {ran.pairs} pairs")
 
 
 def take_back(memory, machine, files):
@@ -173,7 +178,10 @@ def take_back(memory, machine, files):
     undone = sum(1 << file for file in ran.undone)
     print(f"rule 1: undone {undone:016X}, {ran.ran} instructions, {ran.pairs} pairs")
     ran, whole = traverse(memory, machine, files, fm8502.Rule.PER_TRAVERSE)
-    print(f"rule 2: undone in file {ran.undone[0]}, {ran.ran} instructions, {ran.pairs} pairs")
+    print_whole("rule 2", ran)
+    journal = array("I", bytes(4 * SHORT))
+    ran, _ = traverse(memory, machine, files, fm8502.Rule.PER_TRAVERSE, journal)
+    print_whole(f"rule 2, {SHORT} places", ran)
     print("profile, file by file: rule 1, rule 2")
     for file, points in enumerate(zip(by_file[0][PROFILE], whole[0][PROFILE])):
         print(f"{file}{words(points)}")

@@ -27,10 +27,8 @@ from typing import NamedTuple
 _DONE = 0
 _STOPPED = 100
 _HALTED = 101
+_FULL = 102
 _MISFIT = 200
-
-# The most words and instructions of a traverse, together.
-_MOST = 65536
 
 # The papers' reasons to turn a call down, by number.
 _REASONS = {
@@ -38,8 +36,6 @@ _REASONS = {
     2: "the memory has more than 16,777,216 words",
     3: "the wait list has more than 65,536 entries",
     4: "the row, the list position or the access is bad",
-    5: "more than 65,536 instructions in a file run, or words and instructions in a traverse",
-    6: "the journal has fewer than two places for each instruction, and each word of a traverse",
     7: "the output is shorter than the image",
     8: "the image ends inside a field or before its end field",
     9: "a tag is not the one due",
@@ -133,9 +129,11 @@ class Run:
 
 @dataclass(frozen=True)
 class FileRun:
-    """How a file run ended; not finished: undone, with its start put back."""
+    """How a file run ended; not finished: undone, or full, where a store needed one address
+    more than the journal has pairs; either way with its start put back."""
 
     finished: bool
+    full: bool
     ran: int
     # Pairs of address and former word in the journal.
     pairs: int
@@ -168,11 +166,13 @@ class Traverse:
     """How a traverse ended; not finished: a file was undone, and what the rule says taken back."""
 
     finished: bool
+    # Per traverse: whether the file was undone because the journal was full.
+    full: bool
     # Numbers of the undone files, from 0; per traverse one at most, with which all were taken back.
     undone: tuple
     # Instructions that ran in the last file run, also if undone; 0 with no files.
     ran: int
-    # Pairs of address and former word in the journal.
+    # Pairs of address and former word in the journal; per file those of the last file.
     pairs: int
 
 
@@ -230,7 +230,7 @@ def _call(name, *arguments):
     call.restype = c_uint32
     code = call(*arguments)
     assert code != _MISFIT, "this module lends words and results of the lengths due"
-    if code not in (_DONE, _STOPPED, _HALTED):
+    if code not in (_DONE, _STOPPED, _HALTED, _FULL):
         raise Refused(code)
     return code
 
@@ -280,7 +280,7 @@ def _changing(name, lent, state, middle, places):
     words = _word_array(former)
     result = (c_uint64 * places)()
     code = _call(name, *lent, words, c_size_t(len(words)), *middle, result, c_size_t(places))
-    # "Undone" leaves the words, and so the machine, as they were.
+    # "Undone" and "journal full" leave the words, and so the machine, as they were.
     if words[:] != former:
         state._take(words[:])
     return code, result
@@ -303,34 +303,42 @@ def run(memory, waits, machine, count, *, bottom=0, position=0):
 
 
 def file_run(memory, journal, machine, count, *, bottom=0):
-    """Runs up to count instructions; a run that stops before the end is taken back whole."""
+    """Runs up to count instructions; a run that stops before the end is taken back whole.
+
+    The journal notes each address that is stored to once, in the order of the first stores:
+    pair i has the address and the word from before that store, at places 2i and 2i + 1. It
+    has half as many pairs as places, and is full where a store needs one address more; then
+    the run stops before that store. Two places for each word of memory are always enough,
+    and so are two for each instruction.
+    """
     lent = _board(memory, bottom, _lent(c_uint32, journal))
-    code, result = _changing("file_run", lent, machine, [_count(count, 32)], 2)
-    return FileRun(finished=code == _DONE, ran=result[0], pairs=result[1])
+    code, (ran, pairs) = _changing("file_run", lent, machine, [_count(count, 32)], 2)
+    return FileRun(finished=code == _DONE, full=code == _FULL, ran=ran, pairs=pairs)
 
 
-def _file_list(files):
+def _file_list(files, memory_words):
     """The files' words, joined, and their places; a file has four.
 
-    Where a length of more than 32 bits or the list of words is cut short, there are too
-    many words (5), and this comes before a list that does not fit (18).
+    A file of more words than the memory has is misplaced (17), also where its length is cut
+    to 32 bits. This comes before a list that does not fit (18), so its words are left out.
     """
     words, places = array("I"), []
     for file in files:
         laid = _file_words(file)
-        words.extend(laid[: _MOST - len(words)])
+        if len(laid) <= memory_words:
+            words.extend(laid)
         places += [file.place, min(len(laid), (1 << 32) - 1), file.entry, file.count]
     return words, _numbers(c_uint32, places, "a file's place, entry or count is not a number")
 
 
-def journal_places(files):
-    """The places that the journal of a traverse needs: two for each word and instruction."""
-    return sum(2 * (len(words) + operator.index(count)) for _, words, _, count in files)
+def journal_places(files, memory_words):
+    """Places with which the journal of a traverse is never full, on a memory of so many words:
+    two for each word and instruction, or for each word of the memory if those are fewer."""
+    return 2 * min(memory_words, sum(len(words) + operator.index(count) for _, words, _, count in files))
 
 
-def _own_journal(files):
-    # Where more are needed, there are too many words and instructions (5), whatever the journal.
-    return array("I", bytes(4 * min(journal_places(files), 2 * _MOST)))
+def _own_journal(files, memory_words):
+    return array("I", bytes(4 * journal_places(files, memory_words)))
 
 
 def traverse(memory, files, machine, rule, *, bottom=0, journal=None):
@@ -338,23 +346,27 @@ def traverse(memory, files, machine, rule, *, bottom=0, journal=None):
     and runs up to its count of instructions as file_run does. The other registers, flags and
     memory go on from file to file.
 
-    The journal has journal_places(files) places; without one, the pairs are dropped. It
-    notes a laid word as it does a store, and keeps the pairs of what is taken back.
+    The journal notes a laid word as it does a store. Per file it starts empty with each file,
+    and places past the last file's pairs keep what an earlier file wrote; per traverse the
+    files share the pairs. With journal_places(files, len(memory)) places it is never full;
+    without a journal there are as many, and the pairs are dropped.
 
     A file that stops before its end is undone, and the rule says what is then taken back:
     the file, from before its words were laid, or the traverse, whose memory and machine are
-    then those of its start. The rule may be a version's number; another than 1 or 2 is refused.
+    then those of its start. The pairs stay. The rule may be a version's number; another than
+    1 or 2 is refused.
     """
     files = [File(*file) for file in files]
-    words, places = _file_list(files)
-    journal = _own_journal(files) if journal is None else journal
+    room = _places(c_uint32, memory)
+    words, places = _file_list(files, room)
+    journal = _own_journal(files, room) if journal is None else journal
     lent = _board(memory, bottom, _lent(c_uint32, journal), _lent(c_uint32, words), places)
     code, (answer, ran, pairs) = _changing("traverse", lent, machine, [_count(rule, 32)], 3)
     if rule == Rule.PER_FILE:
         undone = tuple(file for file in range(len(files)) if answer >> file & 1)
     else:
-        undone = (answer,) if code == _STOPPED else ()
-    return Traverse(finished=not undone, undone=undone, ran=ran, pairs=pairs)
+        undone = () if code == _DONE else (answer,)
+    return Traverse(finished=not undone, full=code == _FULL, undone=undone, ran=ran, pairs=pairs)
 
 
 def gate_run(memory, waits, state, clocks, *, bottom=0, resets=()):

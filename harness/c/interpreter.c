@@ -3,6 +3,12 @@
 // machine, as they are indexed and would keep all of it from the processor's
 // registers.
 #include "baseline.h"
+#include <string.h>
+
+// One bit for each word of the longest memory, which says whether the journal has a pair
+// for it. Static, one for each thread, and all 0 between calls: a call clears those of its
+// own pairs, so that a long memory costs nothing where it is not stored to.
+static _Thread_local uint64_t noted[(1u << 24) / 64];
 
 // A struct, so that the compiler sees an array where it indexes it.
 typedef struct {
@@ -16,8 +22,8 @@ typedef struct {
     uint32_t bottom; // no store alters a word below it
     const uint16_t *waits;
     size_t entries, position;
-    uint32_t *journal; // null: no journal
-    size_t filled;     // places of the journal
+    uint32_t *journal;     // null: no journal
+    size_t places, filled; // of the journal
     uint64_t clocks;
 } Engine;
 
@@ -112,22 +118,31 @@ INLINE uint32_t compute(Engine *e, uint32_t word, uint32_t a, uint32_t b, bool *
     return r.word;
 }
 
-INLINE void alter(Engine *e, uint32_t address, uint32_t former, uint32_t word) {
-    if (e->journal) {
-        e->journal[e->filled++] = address;
-        e->journal[e->filled++] = former;
-    }
-    e->memory[address] = word;
+// Whether the address has a pair or there is one left for it.
+INLINE bool note(Engine *e, uint32_t address, uint32_t former) {
+    uint64_t bit = (uint64_t)1 << (address & 63);
+    if (noted[address >> 6] & bit) return true;
+    if (e->filled + 2 > e->places) return false;
+    noted[address >> 6] |= bit;
+    e->journal[e->filled++] = address;
+    e->journal[e->filled++] = former;
+    return true;
 }
 
-// Returns the wait.
-INLINE uint32_t store_word(Engine *e, uint32_t address, uint32_t former, uint32_t word) {
-    if (address >= e->bottom) alter(e, address, former, word);
-    return next_wait(e);
+// Adds the wait; false if the journal is full.
+INLINE bool store_word(Engine *e, uint32_t address, uint32_t former, uint32_t word,
+                       uint64_t *clocks) {
+    if (address >= e->bottom) {
+        if (e->journal && !note(e, address, former)) return false;
+        e->memory[address] = word;
+    }
+    *clocks += next_wait(e);
+    return true;
 }
 
 // One instruction; FM8502_DONE, or, with the registers as they were, the code of a run
-// that stops before it.
+// that stops before it. Where the journal is full, registers and flags are for the caller
+// to put back.
 INLINE uint32_t step(Engine *e, Registers *g) {
     uint32_t a, b, ignored, address = 0;
     if (g->r[0] >= e->words) return FM8502_STOPPED;
@@ -151,10 +166,10 @@ INLINE uint32_t step(Engine *e, Registers *g) {
     uint32_t result = compute(e, word, a, b, &stored);
     if (stored) {
         clocks++;
-        if (mb)
-            clocks += store_word(e, address, b, result);
-        else
+        if (!mb)
             g->r[rb] = result;
+        else if (!store_word(e, address, b, result, &clocks))
+            return JOURNAL_FULL;
     }
     if (ma == AFTER) g->r[ra]++;
     if (mb == AFTER) g->r[rb]++;
@@ -218,68 +233,87 @@ uint32_t baseline_run(uint32_t *memory, size_t memory_words, uint32_t bottom,
     return plain_run(e, machine, count, result);
 }
 
-// Puts the words back that were journaled from the place `from` on, last first.
-INLINE void take_back(Engine *e, size_t from) {
-    for (size_t i = e->filled; i > from; i -= 2)
-        e->memory[e->journal[i - 2]] = e->journal[i - 1];
+// Puts the journaled words back; no address has two pairs.
+INLINE void take_back(Engine *e) {
+    for (size_t i = 0; i < e->filled; i += 2) e->memory[e->journal[i]] = e->journal[i + 1];
+}
+
+// Clears the bits of its pairs, which stay in their places but count no longer.
+INLINE void start_again(Engine *e) {
+    for (size_t i = 0; i < e->filled; i += 2) noted[e->journal[i] >> 6] = 0;
+    e->filled = 0;
+}
+
+// A file run does not say whether it was undone at a missing word or at one that halts.
+INLINE uint32_t undone_code(uint32_t code) {
+    return code == FM8502_HALTED ? (uint32_t)FM8502_STOPPED : code;
 }
 
 uint32_t baseline_file_run(uint32_t *memory, size_t memory_words, uint32_t bottom,
-                           uint32_t *journal, uint32_t *machine, uint32_t count,
-                           uint64_t *result) {
-    Engine e = {.memory = memory, .words = memory_words, .bottom = bottom, .journal = journal};
+                           uint32_t *journal, size_t journal_places, uint32_t *machine,
+                           uint32_t count, uint64_t *result) {
+    Engine e = {.memory = memory, .words = memory_words, .bottom = bottom,
+                .journal = journal, .places = journal_places};
     Registers g;
     uint32_t code = go(&e, &g, machine, count, &result[0]);
     result[1] = e.filled / 2;
-    if (code == FM8502_DONE) {
+    if (code == FM8502_DONE)
         give_machine(&e, &g, machine);
-        return FM8502_DONE;
-    }
-    take_back(&e, 0);
-    return FM8502_STOPPED;
+    else
+        take_back(&e);
+    start_again(&e);
+    return undone_code(code);
 }
 
-// Lays so many words from an address on; each is journaled as a store is.
-INLINE void lay(Engine *e, uint32_t place, const uint32_t *words, uint32_t count) {
-    uint32_t *cells = e->memory + place, *pairs = e->journal + e->filled;
+// Lays so many words from an address on; each is journaled as a store is. False if one of
+// them finds no pair.
+INLINE bool lay(Engine *e, uint32_t place, const uint32_t *words, uint32_t count) {
+    uint32_t *cells = e->memory + place;
     for (uint32_t i = 0; i < count; i++) {
-        pairs[2 * i] = place + i;
-        pairs[2 * i + 1] = cells[i];
+        if (!note(e, place + i, cells[i])) return false;
         cells[i] = words[i];
     }
-    e->filled += 2 * (size_t)count;
+    return true;
 }
 
 // A file: place, number of words, entry, instruction count.
 enum { PLACE = 0, WORDS = 1, ENTRY = 2, INSTRUCTIONS = 3, FILE_SIZE = 4 };
 
+// Lays and runs a file; returns its code, and how many instructions ran in *ran.
+INLINE uint32_t file(Engine *e, Registers *g, const uint32_t *words, const uint32_t *file,
+                     uint64_t *ran) {
+    *ran = 0;
+    if (!lay(e, file[PLACE], words, file[WORDS])) return JOURNAL_FULL;
+    g->r[0] = file[ENTRY];
+    return go_on(e, g, file[INSTRUCTIONS], ran);
+}
+
 uint32_t baseline_traverse(uint32_t *memory, size_t memory_words, uint32_t bottom,
-                           uint32_t *journal, const uint32_t *words, const uint32_t *files,
-                           size_t files_places, uint32_t *machine, uint32_t version,
-                           uint64_t *result) {
-    Engine e = {.memory = memory, .words = memory_words, .bottom = bottom, .journal = journal};
+                           uint32_t *journal, size_t journal_places, const uint32_t *words,
+                           const uint32_t *files, size_t files_places, uint32_t *machine,
+                           uint32_t version, uint64_t *result) {
+    Engine e = {.memory = memory, .words = memory_words, .bottom = bottom,
+                .journal = journal, .places = journal_places};
     Registers g;
-    uint64_t undone = 0;
+    uint32_t code = FM8502_DONE;
+    memset(result, 0, 3 * sizeof *result);
     take_machine(&e, &g, machine);
-    result[1] = 0;
     for (size_t i = 0; i < files_places / FILE_SIZE; i++) {
-        const uint32_t *file = files + FILE_SIZE * i;
+        const uint32_t *next = files + FILE_SIZE * i;
         uint32_t before[FM8502_MACHINE_SIZE];
-        size_t filled = e.filled;
         give_machine(&e, &g, before);
-        lay(&e, file[PLACE], words, file[WORDS]);
-        words += file[WORDS];
-        g.r[0] = file[ENTRY];
-        if (go_on(&e, &g, file[INSTRUCTIONS], &result[1]) == FM8502_DONE) continue;
-        take_back(&e, version == 2 ? 0 : filled);
-        result[0] = i;
-        result[2] = e.filled / 2;
-        if (version == 2) return FM8502_STOPPED;
+        if (version == 1) start_again(&e);
+        code = undone_code(file(&e, &g, words, next, &result[1]));
+        words += next[WORDS];
+        if (code == FM8502_DONE) continue;
+        take_back(&e);
+        result[0] = version == 1 ? result[0] | (uint64_t)1 << i : i;
+        if (version == 2) break;
         take_machine(&e, &g, before);
-        undone |= (uint64_t)1 << i;
+        code = FM8502_DONE;
     }
-    give_machine(&e, &g, machine);
-    result[0] = undone;
+    if (code == FM8502_DONE) give_machine(&e, &g, machine);
     result[2] = e.filled / 2;
-    return FM8502_DONE;
+    start_again(&e);
+    return code;
 }

@@ -1,6 +1,6 @@
 //! Flags, gate states and endings of runs as the generated cases have them.
 
-use reference::{Answer, Flags, GateState, Stop};
+use reference::{Answer, FileAnswer, Flags, GateState, Stop};
 
 /// C, V, N, Z as the bits of a number, C the highest.
 pub fn flag_number(flags: Flags) -> u32 {
@@ -15,6 +15,16 @@ pub fn ending_number(answer: Answer) -> u32 {
         Answer::Stopped(Stop::Outside) => 1,
         Answer::Stopped(Stop::NoInstruction) => 2,
         Answer::Refused(refusal) => panic!("a run is refused with {refusal}"),
+    }
+}
+
+/// How a file run that was not refused ended: 0 finished, 1 undone, 2 journal full.
+pub fn file_number(answer: FileAnswer) -> u32 {
+    match answer {
+        FileAnswer::Finished => 0,
+        FileAnswer::Undone => 1,
+        FileAnswer::JournalFull => 2,
+        FileAnswer::Refused(refusal) => panic!("a file run is refused with {refusal}"),
     }
 }
 

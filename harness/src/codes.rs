@@ -3,6 +3,10 @@
 use fm8502::library::{DONE, HALTED, STOPPED};
 use reference::{Answer, FileAnswer, Refusal, Stop, TraverseAnswer};
 
+/// Carried out, and undone as the journal is full (CR 11); of a file run, or of a traverse
+/// under rule 2.
+pub const JOURNAL_FULL: u32 = 102;
+
 pub fn refused(refusal: Refusal) -> u32 {
     u32::from(refusal.number())
 }
@@ -25,6 +29,7 @@ pub fn of_file_run(answer: FileAnswer) -> u32 {
     match answer {
         FileAnswer::Finished => DONE,
         FileAnswer::Undone => STOPPED,
+        FileAnswer::JournalFull => JOURNAL_FULL,
         FileAnswer::Refused(refusal) => refused(refusal),
     }
 }
@@ -33,6 +38,7 @@ pub fn of_traverse(answer: TraverseAnswer) -> u32 {
     match answer {
         TraverseAnswer::Marked(_) | TraverseAnswer::Finished => DONE,
         TraverseAnswer::TakenBack(_) => STOPPED,
+        TraverseAnswer::JournalFull(_) => JOURNAL_FULL,
         TraverseAnswer::Refused(refusal) => refused(refusal),
     }
 }
@@ -41,7 +47,7 @@ pub fn of_traverse(answer: TraverseAnswer) -> u32 {
 pub fn undone(answer: TraverseAnswer) -> u64 {
     match answer {
         TraverseAnswer::Marked(undone) => undone,
-        TraverseAnswer::TakenBack(file) => u64::from(file),
+        TraverseAnswer::TakenBack(file) | TraverseAnswer::JournalFull(file) => u64::from(file),
         TraverseAnswer::Finished | TraverseAnswer::Refused(_) => 0,
     }
 }

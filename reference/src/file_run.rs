@@ -1,11 +1,10 @@
-//! The file run: an interpreter run that is undone as a whole where it stops early.
+//! The file run: an interpreter run that is undone as a whole where it stops early, or
+//! where its journal is full (CR 11).
 
 use crate::interpreter::step;
+use crate::journal::Journal;
 use crate::machine::Machine;
 use crate::refusal::{check_memory_and_bottom, Refusal};
-
-/// The most instructions of one file.
-pub const MOST_INSTRUCTIONS: u32 = 65_536;
 
 /// How a file run ended.
 #[derive(Clone, Copy, Debug, PartialEq, Eq)]
@@ -13,6 +12,8 @@ pub enum FileAnswer {
     Finished,
     /// The interpreter would have stopped; memory and machine are as at the start.
     Undone,
+    /// A store needed one address more than there are pairs; as after `Undone`.
+    JournalFull,
     Refused(Refusal),
 }
 
@@ -26,8 +27,8 @@ pub struct FileResult {
     pub pairs: u32,
 }
 
-/// Runs `count` instructions and journals every store to memory that is not below
-/// `bottom` (CR 6).
+/// Runs `count` instructions and journals the addresses at or above `bottom` (CR 6) to
+/// which they store.
 pub fn file_run(
     memory: &mut [u32],
     bottom: u32,
@@ -41,42 +42,55 @@ pub fn file_run(
         ran: 0,
         pairs: 0,
     };
-    if let Err(refusal) = check(memory.len(), bottom, journal.len(), count) {
+    if let Err(refusal) = check_memory_and_bottom(memory.len(), bottom) {
         result.answer = FileAnswer::Refused(refusal);
         return result;
     }
-    while result.ran < count {
-        let Ok(step) = step(memory, bottom, &mut result.machine) else {
-            undo(memory, &journal[..2 * result.pairs as usize]);
-            result.machine = start;
-            result.answer = FileAnswer::Undone;
-            break;
-        };
-        if let Some((address, former)) = step.stored {
-            let place = 2 * result.pairs as usize;
-            journal[place] = address;
-            journal[place + 1] = former;
-            result.pairs += 1;
-        }
-        result.ran += 1;
-    }
+    // What is undone comes from here, and not from the journal, so that the pairs can be
+    // checked by it.
+    let lent = memory.to_vec();
+    let mut journal = Journal::new(journal);
+    let (ending, ran) = run_journaled(memory, bottom, &mut journal, &mut result.machine, count);
+    result.ran = ran;
+    result.pairs = journal.pairs();
+    result.answer = match ending {
+        Ending::Finished => return result,
+        Ending::Stopped => FileAnswer::Undone,
+        Ending::Full => FileAnswer::JournalFull,
+    };
+    memory.copy_from_slice(&lent);
+    result.machine = start;
     result
 }
 
-fn check(words: usize, bottom: u32, places: usize, count: u32) -> Result<(), Refusal> {
-    check_memory_and_bottom(words, bottom)?;
-    if count > MOST_INSTRUCTIONS {
-        return Err(Refusal::TooManyInstructions);
-    }
-    if places < 2 * count as usize {
-        return Err(Refusal::ShortJournal);
-    }
-    Ok(())
+/// How the instructions of a file ended.
+#[derive(Clone, Copy, Debug, PartialEq, Eq)]
+pub(crate) enum Ending {
+    Finished,
+    Stopped,
+    Full,
 }
 
-/// Puts the former words back, last store first, as an address may recur.
-fn undo(memory: &mut [u32], pairs: &[u32]) {
-    for pair in pairs.chunks_exact(2).rev() {
-        memory[pair[0] as usize] = pair[1];
+/// Up to `count` instructions; returns how they ended and how many ran. Where they did not
+/// finish, memory and machine are to be put back by the caller: an instruction for which
+/// the journal is full has changed them by then. Its words were all there, as a missing
+/// one comes first.
+pub(crate) fn run_journaled(
+    memory: &mut [u32],
+    bottom: u32,
+    journal: &mut Journal,
+    machine: &mut Machine,
+    count: u32,
+) -> (Ending, u32) {
+    for ran in 0..count {
+        let Ok(step) = step(memory, bottom, machine) else {
+            return (Ending::Stopped, ran);
+        };
+        if let Some((address, former)) = step.stored {
+            if journal.note(address, former).is_err() {
+                return (Ending::Full, ran);
+            }
+        }
     }
+    (Ending::Finished, count)
 }

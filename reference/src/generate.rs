@@ -3,6 +3,7 @@
 pub mod bottom;
 pub mod halting;
 pub mod image;
+pub mod journal;
 pub mod looping;
 pub mod pair;
 pub mod position;

@@ -15,6 +15,7 @@ pub mod generate;
 pub mod image;
 pub mod instruction;
 pub mod interpreter;
+mod journal;
 pub mod ledger;
 pub mod machine;
 pub mod meaning;

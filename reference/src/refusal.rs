@@ -7,7 +7,8 @@ pub const MOST_WORDS: usize = 16_777_216;
 /// The most entries of a wait list.
 pub const MOST_WAITS: usize = 65_536;
 
-/// The reasons of documents 01 and 02; each has its number there as its discriminant.
+/// The reasons of documents 01 and 02; each has its number there as its discriminant. 5 and
+/// 6 are given no longer (CR 11).
 #[derive(Clone, Copy, Debug, PartialEq, Eq)]
 #[repr(u8)]
 pub enum Refusal {
@@ -16,9 +17,6 @@ pub enum Refusal {
     LongWaitList = 3,
     /// Also of a run's list position (CR 7).
     BadGateState = 4,
-    /// Of a traverse, words and instructions (CR 1).
-    TooManyInstructions = 5,
-    ShortJournal = 6,
     ShortOutput = 7,
     CutImage = 8,
     WrongTag = 9,

@@ -1,15 +1,12 @@
 //! The traverse (CR 1): up to 64 files on one memory, one after the other.
 
-use crate::file_run::MOST_INSTRUCTIONS;
-use crate::interpreter::step;
+use crate::file_run::{run_journaled, Ending};
+use crate::journal::Journal;
 use crate::machine::Machine;
 use crate::refusal::{check_memory_and_bottom, check_version, Refusal};
 
 /// The most files of a traverse.
 pub const MOST_FILES: usize = 64;
-
-/// The most words and instructions of a traverse, all files together.
-pub const MOST_WORK: u128 = MOST_INSTRUCTIONS as u128;
 
 /// A file of a traverse: its words are laid from the place on, r0 is set to the entry,
 /// and it runs. The words of all files lie in one list, one file's after the other's.
@@ -24,13 +21,16 @@ pub struct File {
 /// How a traverse ended.
 #[derive(Clone, Copy, Debug, PartialEq, Eq)]
 pub enum TraverseAnswer {
-    /// Version 1: bit i is set where file i was undone.
+    /// Version 1: bit i is set where file i was undone, also where its journal was full.
     Marked(u64),
     /// Version 2: no file was undone.
     Finished,
     /// Version 2: the file of this number was undone; memory and machine are as at the
     /// start, and no later file ran.
     TakenBack(u32),
+    /// Version 2: a word or store of the file of this number needed one address more than
+    /// there are pairs (CR 11); as after `TakenBack`.
+    JournalFull(u32),
     Refused(Refusal),
 }
 
@@ -39,9 +39,10 @@ pub struct TraverseResult {
     pub answer: TraverseAnswer,
     pub machine: Machine,
     /// Instructions that ran in the last file run, also where it was undone; 0 with no
-    /// files.
+    /// files, and where its words did not all fit into the journal.
     pub ran: u32,
-    /// Pairs of address and former word in the journal, of undone files too.
+    /// Pairs of address and former word in the journal, also of an undone file: of the last
+    /// file (version 1) or of all that ran (version 2).
     pub pairs: u32,
 }
 
@@ -56,7 +57,7 @@ pub fn traverse(
     start: Machine,
     version: u32,
 ) -> TraverseResult {
-    if let Err(refusal) = check(memory, bottom, journal, words, files, version) {
+    if let Err(refusal) = check(memory, bottom, words, files, version) {
         return TraverseResult {
             answer: TraverseAnswer::Refused(refusal),
             machine: start,
@@ -67,8 +68,7 @@ pub fn traverse(
     let mut traverse = Traverse {
         memory,
         bottom,
-        journal,
-        pairs: 0,
+        journal: Journal::new(journal),
         words,
         machine: start,
         ran: 0,
@@ -81,7 +81,7 @@ pub fn traverse(
         answer,
         machine: traverse.machine,
         ran: traverse.ran,
-        pairs: traverse.pairs,
+        pairs: traverse.journal.pairs(),
     }
 }
 
@@ -89,21 +89,11 @@ pub fn traverse(
 fn check(
     memory: &[u32],
     bottom: u32,
-    journal: &[u32],
     words: &[u32],
     files: &[File],
     version: u32,
 ) -> Result<(), Refusal> {
     check_memory_and_bottom(memory.len(), bottom)?;
-    let laid: u128 = files.iter().map(|file| u128::from(file.words)).sum();
-    let instructions: u128 = files.iter().map(|file| u128::from(file.count)).sum();
-    let work = laid + instructions;
-    if work > MOST_WORK {
-        return Err(Refusal::TooManyInstructions);
-    }
-    if (journal.len() as u128) < 2 * work {
-        return Err(Refusal::ShortJournal);
-    }
     if files.len() > MOST_FILES {
         return Err(Refusal::TooManyFiles);
     }
@@ -113,6 +103,7 @@ fn check(
     {
         return Err(Refusal::FileMisplaced);
     }
+    let laid: u128 = files.iter().map(|file| u128::from(file.words)).sum();
     if laid != words.len() as u128 {
         return Err(Refusal::WordsMismatched);
     }
@@ -129,8 +120,7 @@ fn misplaced(file: &File, words: usize, bottom: u32) -> bool {
 struct Traverse<'a> {
     memory: &'a mut [u32],
     bottom: u32,
-    journal: &'a mut [u32],
-    pairs: u32,
+    journal: Journal<'a>,
     /// Those not laid yet.
     words: &'a [u32],
     machine: Machine,
@@ -139,12 +129,14 @@ struct Traverse<'a> {
 }
 
 impl Traverse<'_> {
-    /// An undone file goes back to before its words were laid, and the next follows.
+    /// An undone file goes back to before its words were laid, and the next follows. Each
+    /// has the journal to itself.
     fn each_alone(&mut self, files: &[File]) -> TraverseAnswer {
         let mut undone = 0;
         for (number, file) in files.iter().enumerate() {
             let (memory, machine) = (self.memory.to_vec(), self.machine);
-            if !self.lay_and_run(file) {
+            self.journal.start_again();
+            if self.lay_and_run(file) != Ending::Finished {
                 self.go_back(&memory, machine);
                 undone |= 1 << number;
             }
@@ -152,14 +144,17 @@ impl Traverse<'_> {
         TraverseAnswer::Marked(undone)
     }
 
-    /// The first undone file takes all of them back and is the last.
+    /// The first undone file takes all of them back and is the last. They share the journal.
     fn all_or_none(&mut self, files: &[File]) -> TraverseAnswer {
         let (memory, machine) = (self.memory.to_vec(), self.machine);
-        for (number, file) in files.iter().enumerate() {
-            if !self.lay_and_run(file) {
-                self.go_back(&memory, machine);
-                return TraverseAnswer::TakenBack(number as u32);
-            }
+        for (number, file) in (0..).zip(files) {
+            let answer = match self.lay_and_run(file) {
+                Ending::Finished => continue,
+                Ending::Stopped => TraverseAnswer::TakenBack(number),
+                Ending::Full => TraverseAnswer::JournalFull(number),
+            };
+            self.go_back(&memory, machine);
+            return answer;
         }
         TraverseAnswer::Finished
     }
@@ -170,39 +165,33 @@ impl Traverse<'_> {
         self.machine = machine;
     }
 
-    /// Whether all instructions of the file ran.
-    fn lay_and_run(&mut self, file: &File) -> bool {
-        self.lay(file);
-        self.machine.registers[0] = file.entry;
-        self.ran = 0;
-        while self.ran < file.count {
-            let Ok(step) = step(self.memory, self.bottom, &mut self.machine) else {
-                return false;
-            };
-            if let Some((address, former)) = step.stored {
-                self.put_pair(address, former);
-            }
-            self.ran += 1;
-        }
-        true
-    }
-
-    /// Each word is journaled as a store is.
-    fn lay(&mut self, file: &File) {
+    /// A file whose words do not all fit into the journal is not run.
+    fn lay_and_run(&mut self, file: &File) -> Ending {
         let (words, rest) = self.words.split_at(file.words as usize);
         self.words = rest;
-        for (address, &word) in (file.place..).zip(words) {
-            let former = self.memory[address as usize];
-            self.put_pair(address, former);
-            self.memory[address as usize] = word;
+        self.ran = 0;
+        if !self.lay(file.place, words) {
+            return Ending::Full;
         }
+        self.machine.registers[0] = file.entry;
+        let (ending, ran) = run_journaled(
+            self.memory,
+            self.bottom,
+            &mut self.journal,
+            &mut self.machine,
+            file.count,
+        );
+        self.ran = ran;
+        ending
     }
 
-    /// Numbered on through the traverse, undone files included.
-    fn put_pair(&mut self, address: u32, former: u32) {
-        let place = 2 * self.pairs as usize;
-        self.journal[place] = address;
-        self.journal[place + 1] = former;
-        self.pairs += 1;
+    /// Whether there was a pair for each word, which is journaled as a store is.
+    fn lay(&mut self, place: u32, words: &[u32]) -> bool {
+        (place..).zip(words).all(|(address, &word)| {
+            let there = &mut self.memory[address as usize];
+            let fits = self.journal.note(address, *there).is_ok();
+            *there = word;
+            fits
+        })
     }
 }

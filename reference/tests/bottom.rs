@@ -166,8 +166,8 @@ fn a_store_below_is_not_journaled_and_takes_no_number() {
     let (lent, start) = four_stores();
     // How many pairs, the journal, and the two words afterwards.
     let dues = [
-        (5, 4, [5, 50, 6, 60, 5, 57, 6, 67], [64, 74]),
-        (6, 2, [6, 60, 6, 67, 9, 9, 9, 9], [50, 74]),
+        (5, 2, [5, 50, 6, 60, 9, 9, 9, 9], [64, 74]),
+        (6, 1, [6, 60, 9, 9, 9, 9, 9, 9], [50, 74]),
         (7, 0, [9; 8], [50, 60]),
     ];
     for (bottom, pairs, due_journal, words) in dues {
@@ -315,7 +315,8 @@ fn outcomes(program: &Program) -> impl PartialEq + std::fmt::Debug {
     )
 }
 
-/// The journal shows every store, so that one below always makes a difference.
+/// The journal shows every address stored to, so that a store below always makes a
+/// difference.
 #[test]
 fn stores_below_and_nothing_else_make_a_difference() {
     let mut rng = Rng::new(63);

@@ -12,18 +12,20 @@ const SENTINEL: u32 = 0x5A5A_5A5A;
 /// Without waits, an instruction takes no more.
 const MOST_CLOCKS: u32 = 11;
 
-/// Address and former word of every store in the first `count` instructions that is
-/// not below the bottom, as seen at row 9 of the gate machine. They must all be present.
+/// Address and former word of the first store to each address in the first `count`
+/// instructions that is not below the bottom, as seen at row 9 of the gate machine. The
+/// instructions' words must all be present.
 fn stores(program: &Program, count: u32) -> Vec<u32> {
     let mut memory = program.memory.clone();
     let mut state = GateState::start(program.start);
-    let mut journal = Vec::new();
+    let mut journal: Vec<u32> = Vec::new();
     let mut finished = 0;
     for _ in 0..MOST_CLOCKS * count {
         if finished == u64::from(count) {
             break;
         }
-        if state.row == 9 && state.address >= program.bottom {
+        let noted = journal.chunks(2).any(|pair| pair[0] == state.address);
+        if state.row == 9 && state.address >= program.bottom && !noted {
             journal.extend([state.address, memory[state.address as usize]]);
         }
         finished += gate_clock(&mut memory, program.bottom, &[], &mut state).unwrap();
@@ -83,7 +85,7 @@ fn does_what_the_interpreter_does_or_undoes_it() {
     assert!((4_000..36_000).contains(&undone), "{undone}");
 }
 
-/// Two stores to one address: only undoing from the last gives the first back.
+/// Two stores to one address: it is the word from before the first that is kept.
 #[test]
 fn an_address_stored_twice_goes_back_to_its_first_word() {
     // r1 to the word r2 points at, then r3 to it, then outside.
@@ -96,7 +98,7 @@ fn an_address_stored_twice_goes_back_to_its_first_word() {
         start: machine(&[(1, 5), (2, 3), (3, 6), (4, 99)], "0000"),
         count: 9,
     };
-    assert_eq!(stores(&program, 2), [3, 0x77, 3, 5]);
+    assert_eq!(stores(&program, 2), [3, 0x77]);
     assert!(check(&program, 0));
 }
 

@@ -66,8 +66,6 @@ fn numbers_are_those_of_the_papers() {
         Refusal::TooManyWords,
         Refusal::LongWaitList,
         Refusal::BadGateState,
-        Refusal::TooManyInstructions,
-        Refusal::ShortJournal,
         Refusal::ShortOutput,
         Refusal::CutImage,
         Refusal::WrongTag,
@@ -84,7 +82,8 @@ fn numbers_are_those_of_the_papers() {
         Refusal::ResetsNotRising,
     ];
     let numbers: Vec<u8> = all.iter().map(|refusal| refusal.number()).collect();
-    let due: Vec<u8> = (1..=18).chain([21, 22]).collect();
+    // 5 and 6 are given no longer (CR 11).
+    let due: Vec<u8> = (1..=4).chain(7..=18).chain([21, 22]).collect();
     assert_eq!(numbers, due);
 }
 
@@ -208,28 +207,25 @@ fn generated_gate_states() {
     }
 }
 
+/// Any count and any journal is taken (CR 11): r0 is past the memory, so that a file run
+/// that is carried out is undone at once.
 #[test]
 fn file_runs() {
     assert_eq!(file_refusal(&mut [], 1, &mut [], 65_537), Some(1));
     let mut long = zeros(TOO_LONG);
     assert_eq!(file_refusal(&mut long, PAST + 1, &mut [], 65_537), Some(2));
-    let memory = &mut long[1..];
-    assert_eq!(file_refusal(memory, PAST, &mut [], 65_537), Some(21));
-    assert_eq!(file_refusal(memory, PAST - 1, &mut [], 65_537), Some(5));
     let refusal =
         |bottom, journal: &mut [u32], count| file_refusal(&mut [7], bottom, journal, count);
-    assert_eq!(refusal(0, &mut [], u32::MAX), Some(5));
-    let mut journal = vec![1; 131_072];
-    assert_eq!(refusal(0, &mut journal, 65_537), Some(5));
-    assert_eq!(refusal(2, &mut journal, 65_537), Some(21));
-    assert_eq!(refusal(2, &mut journal[1..], 65_536), Some(21));
-    assert_eq!(refusal(1, &mut journal[1..], 65_536), Some(6));
-    assert_eq!(refusal(1, &mut journal, 65_536), None);
-    assert_eq!(refusal(0, &mut [], 1), Some(6));
-    assert_eq!(refusal(0, &mut [0; 1], 1), Some(6));
-    assert_eq!(refusal(0, &mut [0; 2], 1), None);
-    assert_eq!(refusal(0, &mut [], 0), None);
-    assert_eq!(refusal(2, &mut [], 0), Some(21));
+    for count in [0, 1, 65_536, 65_537, u32::MAX] {
+        let memory = &mut long[1..];
+        assert_eq!(file_refusal(memory, PAST, &mut [], count), Some(21));
+        for places in [0, 1, 2, 3, 131_071, 131_072] {
+            let journal = &mut vec![1; places];
+            assert_eq!(refusal(0, journal, count), None);
+            assert_eq!(refusal(1, journal, count), None);
+            assert_eq!(refusal(2, journal, count), Some(21));
+        }
+    }
 }
 
 #[test]

@@ -55,8 +55,9 @@ fn go(case: &TraverseCase) -> Left {
         memory,
         journal,
     };
+    // Under version 1 an earlier file may have filled places past the last one's (CR 11).
     let unused = &left.journal[2 * result.pairs as usize..];
-    assert!(unused.iter().all(|&word| word == SENTINEL));
+    assert!(case.version == 1 || unused.iter().all(|&word| word == SENTINEL));
     left
 }
 
@@ -103,7 +104,8 @@ fn no_files() {
     }
 }
 
-/// Words and stores are numbered on; registers and flags go on; r0 is set each time.
+/// Words and stores share the journal, of each file or of all; registers and flags go on;
+/// r0 is set each time.
 #[test]
 fn files_follow_on() {
     for version in [1, 2] {
@@ -117,9 +119,10 @@ fn files_follow_on() {
         // r1 is 1, then 2 and 3; the last file adds it to word 8.
         let registers = [(0, 1), (1, 3), (2, 8)];
         assert_eq!(left.result.machine, machine(&registers, "1010"));
-        assert_eq!((left.result.ran, left.result.pairs), (1, 5));
+        assert_eq!(left.result.ran, 1);
         assert_eq!(left.memory[8..], [44, 50, 60, 0]);
-        assert_eq!(left.pairs(), [8, 0, 8, 40, 9, 0, 10, 0, 8, 41]);
+        let due: [&[u32]; 2] = [&[8, 41], &[8, 0, 9, 0, 10, 0]];
+        assert_eq!(left.pairs(), due[version as usize - 1]);
     }
 }
 
@@ -142,10 +145,9 @@ fn an_undone_file_alone_goes_back_under_version_1() {
     );
     let registers = [(0, 2), (1, 3), (2, 8)];
     assert_eq!(left.result.machine, machine(&registers, "1010"));
-    assert_eq!((left.result.ran, left.result.pairs), (2, 6));
-    // The pairs of the undone file stay, and the numbers go on after them.
-    let pairs = [8, 0, 8, 40, 1, INCREMENT, 8, 41, 9, 0, 8, 41];
-    assert_eq!(left.pairs(), pairs);
+    // The pairs are the last file's (CR 11).
+    assert_eq!((left.result.ran, left.result.pairs), (2, 2));
+    assert_eq!(left.pairs(), [9, 0, 8, 41]);
 }
 
 #[test]
@@ -157,8 +159,8 @@ fn an_undone_file_takes_all_back_under_version_2() {
         (left.result.machine, &left.memory),
         (case.start, &case.memory)
     );
-    assert_eq!((left.result.ran, left.result.pairs), (1, 4));
-    assert_eq!(left.pairs(), [8, 0, 8, 40, 1, INCREMENT, 8, 41]);
+    assert_eq!((left.result.ran, left.result.pairs), (1, 2));
+    assert_eq!(left.pairs(), [8, 0, 1, INCREMENT]);
 }
 
 /// Flags and all registers that an undone file changed go back, r0 to what the file
@@ -225,7 +227,8 @@ fn check_mask(mask: u64) {
     assert_eq!(left.memory[8], finished);
     let last = 63 - (!mask).leading_zeros().min(63);
     assert_eq!(left.memory[9], if mask == u64::MAX { 0 } else { last });
-    assert_eq!(left.result.pairs, 64 + finished);
+    // Of the last file: its word, and its store if it was not undone at once.
+    assert_eq!(left.result.pairs, if mask >> 63 == 1 { 1 } else { 2 });
     case.version = 2;
     let due = match mask.trailing_zeros() {
         64 => TraverseAnswer::Finished,
@@ -258,7 +261,12 @@ fn words_are_laid_over_code_and_words() {
         assert_eq!(left.result.machine, machine(&registers, "1010"));
         assert_eq!(left.memory[..4], [INCREMENT, ADD_AFTER, INCREMENT, 0]);
         assert_eq!(left.memory[8..], [5, 5, 6, 0]);
-        assert_eq!(taken_back(left.memory.clone(), left.pairs()), case.memory);
+        let back = taken_back(left.memory.clone(), left.pairs());
+        let due = [
+            memory(&[INCREMENT, ADD_AFTER, ADD_AFTER, 0, 0, 0, 0, 0, 5, 5], 12),
+            case.memory,
+        ];
+        assert_eq!(back, due[version as usize - 1]);
     }
 }
 
@@ -278,7 +286,7 @@ fn words_alone() {
     assert_eq!(left.result.machine, machine(&registers, "1010"));
 }
 
-/// A store below the bottom alters nothing and takes no number (CR 6).
+/// A store below the bottom alters nothing and takes no pair (CR 6).
 #[test]
 fn stores_below_the_bottom() {
     for version in [1, 2] {
@@ -291,7 +299,8 @@ fn stores_below_the_bottom() {
             left.memory,
             memory(&[ADD_TO, INCREMENT, HALT, 0, 0, 0, 0, 0, 0, 7, 8], 12)
         );
-        assert_eq!(left.pairs(), [9, 0, 10, 0]);
+        let due: [&[u32]; 2] = [&[], &[9, 0, 10, 0]];
+        assert_eq!(left.pairs(), due[version as usize - 1]);
     }
 }
 
@@ -330,7 +339,9 @@ fn check(case: &TraverseCase) -> [usize; 2] {
     let left = go(case);
     let (memory, machine, undone, ran) = file_by_file(case);
     assert_eq!(left.result.ran, ran, "{case:X?}");
-    assert_eq!(taken_back(left.memory.clone(), left.pairs()), case.memory);
+    if case.version == 2 {
+        assert_eq!(taken_back(left.memory.clone(), left.pairs()), case.memory);
+    }
     if case.version == 2 && undone > 0 {
         let first = undone.trailing_zeros();
         assert_eq!(left.result.answer, TraverseAnswer::TakenBack(first));
@@ -401,6 +412,8 @@ fn check_file_run(program: &Program, places: usize) {
             (FileAnswer::Finished, _) => TraverseAnswer::Finished,
             (FileAnswer::Undone, 1) => TraverseAnswer::Marked(1),
             (FileAnswer::Undone, _) => TraverseAnswer::TakenBack(0),
+            (FileAnswer::JournalFull, 1) => TraverseAnswer::Marked(1),
+            (FileAnswer::JournalFull, _) => TraverseAnswer::JournalFull(0),
             (FileAnswer::Refused(refusal), _) => TraverseAnswer::Refused(refusal),
         };
         let result = TraverseResult {
@@ -422,12 +435,12 @@ fn a_file_run_is_the_traverse_of_one() {
         let enough = 2 * program.count as usize;
         check_file_run(&program, enough + rng.below(3));
         check_file_run(&program, rng.below(enough.max(1)));
-        if rng.one_in(10) {
+        if rng.one_in(100) {
             program.bottom = program.memory.len() as u32 + 1;
             check_file_run(&program, rng.below(enough + 1));
             program.bottom = 0;
-            program.count = rng.pick(&[65_536, 65_537, u32::MAX]);
-            check_file_run(&program, rng.pick(&[0, 131_071, 131_072, 131_074]));
+            program.count = rng.pick(&[65_536, 65_537, 140_000]);
+            check_file_run(&program, rng.pick(&[0, 3, 8, 200]));
             program.memory.clear();
             check_file_run(&program, 0);
         }

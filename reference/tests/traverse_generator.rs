@@ -166,7 +166,7 @@ fn record_undone(seen: &mut Seen, case: &TraverseCase) {
             ("2: between", file > 0 && file < last),
             ("2: last", file > 0 && file == last),
         ]),
-        TraverseAnswer::Refused(refusal) => panic!("refused with {refusal}: {case:X?}"),
+        answer => panic!("{answer:?}: {case:X?}"),
     }
 }
 

@@ -22,6 +22,8 @@ const RESET: u64 = 1000;
 /// Of the instructions after it.
 const FIRST_PART: u32 = 40;
 const RESTARTED_ACCUMULATORS: std::ops::Range<usize> = 0x14..0x18;
+/// Places of a journal for line.files under rule 2: too few for the addresses that are stored to.
+const SHORT: usize = 17;
 /// Of line.image.
 const FILE_COUNT: usize = 0x0B;
 const PROFILE: std::ops::Range<usize> = 0x0C..0x0F;
@@ -120,17 +122,23 @@ fn run_gates(
     Ok(state)
 }
 
-/// The run, and its journal.
+/// With a journal of `places` places, which is returned with the run.
 fn run_file(
+    name: &str,
     memory: &mut [u32],
     bottom: u32,
     machine: &mut Machine,
+    places: usize,
 ) -> Result<(FileRun, Vec<u32>), Refused> {
-    let mut journal = vec![0; 2 * INSTRUCTIONS as usize];
+    let mut journal = vec![0; places];
     let ran = file_run(memory, bottom, &mut journal, machine, INSTRUCTIONS)?;
-    let ending = if ran.finished { "finished" } else { "undone" };
+    let ending = match (ran.finished, ran.full) {
+        (true, _) => "finished",
+        (false, true) => "journal full",
+        (false, false) => "undone",
+    };
     println!(
-        "file run: {ending}, {} instructions, {} pairs",
+        "{name}: {ending}, {} instructions, {} pairs",
         ran.ran, ran.pairs
     );
     Ok((ran, journal))
@@ -139,15 +147,11 @@ fn run_file(
 fn roll_back(memory: &mut [u32], start: Machine) -> Result<(), Refused> {
     let former = memory.to_vec();
     let mut machine = start;
-    let (ran, mut journal) = run_file(memory, 0, &mut machine)?;
+    let (ran, journal) = run_file("file run", memory, 0, &mut machine, 2 * former.len())?;
     println!("journal{}", words(&journal[..2 * ran.pairs as usize]));
     let same = yes_or_no(memory == former && machine == start);
     println!("memory and machine as before: {same}");
-
-    let short = file_run(memory, 0, &mut journal[..9], &mut machine, INSTRUCTIONS);
-    if let Err(Refused(number)) = short {
-        println!("short journal: refused {number}");
-    }
+    run_file("short journal", memory, 0, &mut machine, 5)?;
     Ok(())
 }
 
@@ -183,7 +187,8 @@ fn run_on_board(memory: &[u32], bottom: u32, waits: &[u16], start: Machine) -> R
     println!("loader{}", words(loader));
     println!("accumulators{}", words(&behind[..LOADER_WORDS]));
     run_gates(&mut memory.to_vec(), bottom, waits, &[], start, ran.clocks)?;
-    run_file(&mut memory.to_vec(), bottom, &mut file)?;
+    let mut copy = memory.to_vec();
+    run_file("file run", &mut copy, bottom, &mut file, 2 * memory.len())?;
     run_interpreter("again", &mut left, bottom, waits, 0, &mut second)?;
     Ok(())
 }
@@ -259,10 +264,13 @@ fn rewrite(memory: &[u32], machine: Machine) -> Result<(), Refused> {
 /// One file of the line is undone: by rule 1 that file is taken back, by rule 2 the line.
 fn take_back(memory: &[u32], start: Machine, lines: &[Vec<u32>]) -> Result<(), Refused> {
     let files: Vec<File> = lines.iter().map(|line| file(line)).collect();
-    let (ran, by_file, machine) = run_files(memory, start, &files, Rule::PerFile)?;
-    print_undone(ran);
-    let (ran, whole, former) = run_files(memory, start, &files, Rule::PerTraverse)?;
-    print_undone(ran);
+    let enough = journal_places(&files, memory.len());
+    let (ran, by_file, machine) = run_files(memory, start, &files, Rule::PerFile, enough)?;
+    print_undone("rule 1", ran);
+    let (ran, whole, former) = run_files(memory, start, &files, Rule::PerTraverse, enough)?;
+    print_undone("rule 2", ran);
+    let (ran, _, _) = run_files(memory, start, &files, Rule::PerTraverse, SHORT)?;
+    print_undone(&format!("rule 2, {SHORT} places"), ran);
     println!("profile, file by file: rule 1, rule 2");
     for (number, point) in PROFILE.enumerate() {
         println!("{number}{}", words(&[by_file[point], whole[point]]));
@@ -273,7 +281,7 @@ fn take_back(memory: &[u32], start: Machine, lines: &[Vec<u32>]) -> Result<(), R
     );
 
     let two = [files[0], files[2]];
-    let (_, left, end) = run_files(memory, start, &two, Rule::PerFile)?;
+    let (_, left, end) = run_files(memory, start, &two, Rule::PerFile, enough)?;
     let same = yes_or_no(left == by_file && end == machine);
     println!("rule 1 as files 0 and 2 alone: {same}");
     let same = yes_or_no(whole == memory && former == start);
@@ -296,18 +304,20 @@ fn run_files(
     start: Machine,
     files: &[File],
     rule: Rule,
+    places: usize,
 ) -> Result<(Traverse, Vec<u32>, Machine), Refused> {
     let (mut left, mut machine) = (memory.to_vec(), start);
-    let mut journal = vec![0; journal_places(files)];
+    let mut journal = vec![0; places];
     let ran = traverse(&mut left, 0, &mut journal, files, &mut machine, rule)?;
     Ok((ran, left, machine))
 }
 
-fn print_undone(ran: Traverse) {
+fn print_undone(name: &str, ran: Traverse) {
+    let what = if ran.full { "journal full" } else { "undone" };
     match ran.undone {
-        Undone::Files(bits) => print!("rule 1: undone {bits:016X}"),
-        Undone::Traverse(Some(file)) => print!("rule 2: undone in file {file}"),
-        Undone::Traverse(None) => print!("rule 2: finished"),
+        Undone::Files(bits) => print!("{name}: {what} {bits:016X}"),
+        Undone::Traverse(Some(file)) => print!("{name}: {what} in file {file}"),
+        Undone::Traverse(None) => print!("{name}: finished"),
     }
     println!(", {} instructions, {} pairs", ran.ran, ran.pairs);
 }
@@ -322,7 +332,7 @@ fn refuse_version(memory: &[u32], start: Machine, lines: &[Vec<u32>]) {
     let number = library::traverse(
         &mut memory.to_vec(),
         0,
-        &mut vec![0; journal_places(&files)],
+        &mut [],
         &words.copied().collect::<Vec<_>>(),
         &numbers.copied().collect::<Vec<_>>(),
         &mut machine,

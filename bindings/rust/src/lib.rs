@@ -38,8 +38,11 @@ pub struct Run {
 /// How a file run ended.
 #[derive(Clone, Copy, Debug, PartialEq, Eq)]
 pub struct FileRun {
-    /// False: it stopped as a run does, and memory and machine are those of its start.
+    /// False: it stopped, and memory and machine are those of its start.
     pub finished: bool,
+    /// True: it stopped because a store needed one address more than the journal has
+    /// pairs. False where it finished, or stopped as a run does.
+    pub full: bool,
     pub ran: u32,
     /// Pairs of address and former word in the journal.
     pub pairs: u32,
@@ -48,7 +51,7 @@ pub struct FileRun {
 /// The code of a call that was carried out.
 fn carried_out(code: u32) -> Result<u32, Refused> {
     match code {
-        library::DONE | library::STOPPED | library::HALTED => Ok(code),
+        library::DONE | library::STOPPED | library::HALTED | library::JOURNAL_FULL => Ok(code),
         // The wrappers lend slices of the right length, so this is a refusal.
         number => Err(Refused(number)),
     }
@@ -91,7 +94,12 @@ pub fn run(
 }
 
 /// Runs up to `count` instructions without waits; a run that comes outside or to a
-/// word that is no instruction is taken back whole. The journal has two places for
+/// word that is no instruction, or whose journal is full, is taken back whole.
+///
+/// The journal notes each address that is stored to once, in the order of the first
+/// stores: pair i has the address and the word from before that store, at places 2i and
+/// 2i + 1. It has half as many pairs as places, and is full where a store needs one
+/// address more. Two places for each word of memory are always enough, and so are two for
 /// each instruction.
 pub fn file_run(
     memory: &mut [u32],
@@ -107,6 +115,7 @@ pub fn file_run(
     *machine = Machine::from_words(&words);
     Ok(FileRun {
         finished: code == library::DONE,
+        full: code == library::JOURNAL_FULL,
         ran: result[0] as u32,
         pairs: result[1] as u32,
     })

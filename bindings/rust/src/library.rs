@@ -16,6 +16,9 @@ pub const DONE: u32 = 0;
 pub const STOPPED: u32 = 100;
 /// Carried out, and stopped at a word that is no instruction; [`run`] alone.
 pub const HALTED: u32 = 101;
+/// Carried out, and stopped before a store that needs one address more than the journal
+/// has pairs: of a file run, or a traverse under rule 2.
+pub const JOURNAL_FULL: u32 = 102;
 /// A machine, state, result or files of another length.
 pub const MISFIT: u32 = 200;
 
@@ -143,7 +146,8 @@ pub fn run(
     }
 }
 
-/// `machine` as for [`run`]. `result`: instructions that ran, journal pairs.
+/// `machine` as for [`run`]. `result`: instructions that ran, journal pairs. Takes some
+/// 200 KiB of the stack, as [`traverse`] does.
 pub fn file_run(
     memory: &mut [u32],
     bottom: u32,

@@ -8,13 +8,11 @@ pub struct Refused(pub u32);
 
 /// The papers' reasons, each with its number.
 #[rustfmt::skip] // tests/bindings.sh reads a reason a line
-const REASONS: [(u32, &str); 20] = [
+const REASONS: [(u32, &str); 18] = [
     (1, "the memory has no words"),
     (2, "the memory has more than 16,777,216 words"),
     (3, "the wait list has more than 65,536 entries"),
     (4, "the row, the list position or the access is bad"),
-    (5, "more than 65,536 instructions in a file run, or words and instructions in a traverse"),
-    (6, "the journal has fewer than two places for each instruction, and each word of a traverse"),
     (7, "the output is shorter than the image"),
     (8, "the image ends inside a field or before its end field"),
     (9, "a tag is not the one due"),

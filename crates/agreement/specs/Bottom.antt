@@ -1,6 +1,6 @@
 -- CR 6: the bottom of memory, in the terms of what a run, a file run and a gate run return by their contracts: it is never altered, and a
 -- call that is carried out and stores nothing below it returns and leaves what it does with the bottom at 0; from any list position and with
--- any resets (CR 7).
+-- any resets (CR 7), and with a journal of any size (CR 11).
 use Prim.Native.Nat.{ℕ}
 use mathlib.Core.Path.{_≡_}
 use mathlib.Core.Bool.{true}

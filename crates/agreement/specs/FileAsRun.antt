@@ -1,7 +1,8 @@
 -- The file run beside the run, in the terms of what the two calls return by their contracts. Document 01, "File run and journal"; CR 5 to
--- CR 7.
-use Prim.Native.Nat.{ℕ}
+-- CR 7 and CR 11.
+use Prim.Native.Nat.{ℕ, _<_}
 use mathlib.Core.Path.{_≡_}
+use mathlib.Core.Bool.{Bool, true, false}
 use mathlib.Core.List.{List}
 use Rattle.model.specs.declared.Machine.{Machine}
 use Rattle.model.specs.Board.{Board}
@@ -10,6 +11,15 @@ use Rattle.interpreter.specs.declared.RunResult.{RunResult}
 use Rattle.interpreter.specs.declared.FileAnswer.{FileAnswer}
 use Rattle.interpreter.specs.declared.FileResult.{FileResult}
 use Rattle.interpreter.specs.Calls.{Runs, runNumber, FileRuns, fileNumber}
+
+-- CR 11: whether a file run's answer is "journal full"
+abbrev pub isFull : FileAnswer → Bool
+isFull FileAnswer.Finished = false
+isFull FileAnswer.Undone = false
+isFull FileAnswer.Full = true
+isFull (FileAnswer.Refused why) = false
+
+-- ---- where the journal is not full
 
 -- "finished" exactly where the run is, "undone" exactly where it is "outside" or "no instruction"
 abbrev pub fileAnswer : RunAnswer → FileAnswer
@@ -33,4 +43,23 @@ FileAsRun =
     (memory : List ℕ) (board : Board) (position : ℕ) (journal : List ℕ) (start : Machine) (n : ℕ)
     → (r : RunResult) (words : List ℕ) → Runs memory board position start n words r → runNumber (r .answer) ≡ 0
     → (f : FileResult) (words′ journal′ : List ℕ) → FileRuns memory (board .bottom) journal start n words′ journal′ f → fileNumber (f .answer) ≡ 0
+    → isFull (f .answer) ≡ false
     → AsRun memory start words r words′ f
+
+-- ---- CR 11: where it is full
+
+-- The file run is undone before an instruction that the run runs, whatever comes after it: it ran fewer instructions than the run, and so
+-- fewer than it was asked for.
+pub record BeforeRun (memory : List ℕ) (start : Machine) (n : ℕ) (r : RunResult) (words′ : List ℕ) (f : FileResult) : Type 0 where
+  pub machine : f .machine ≡ start
+  pub words : words′ ≡ memory
+  pub ran : f .ran < r .ran
+  pub asked : f .ran < n
+
+abbrev pub FullAsRun : Type 0
+FullAsRun =
+    (memory : List ℕ) (board : Board) (position : ℕ) (journal : List ℕ) (start : Machine) (n : ℕ)
+    → (r : RunResult) (words : List ℕ) → Runs memory board position start n words r → runNumber (r .answer) ≡ 0
+    → (f : FileResult) (words′ journal′ : List ℕ) → FileRuns memory (board .bottom) journal start n words′ journal′ f
+    → isFull (f .answer) ≡ true
+    → BeforeRun memory start n r words′ f

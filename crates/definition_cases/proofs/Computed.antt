@@ -8,7 +8,7 @@ use Rattle.model.specs.Operands.{operandA, operandB}
 use Rattle.model.specs.Alu.{isMove, operation, alu, flagsAfter, stores}
 use Rattle.model.specs.Waits.{waitAt, nextPosition, positionFits, waitSum, positionAfter}
 use Rattle.model.specs.Interpreter.{execute, stop, advance, interpret}
-use Rattle.model.specs.Journal.{storedBy, journalPairs, journalWords}
+use Rattle.model.specs.Journal.{storedBy, hasPair, noting, within, runOne, runNoted, journalWords}
 use Rattle.model.specs.GateMachine.{work, isAccess, remaining, positionNow, workOrWait, clock, gateRun}
 use Rattle.model.specs.Packed.{packedOf, flagsOf, latchWords}
 use Rattle.model.specs.Refusals.{runVerdict, gateVerdict}
@@ -16,7 +16,7 @@ use Rattle.definition_cases.specs.Shape.{runHolds, gateHolds, verdictHol
 use Rattle.definition_cases.specs.Cases.{runCases, gateCases, verdictCases, startCases}
 
 pub runs : failures runHolds 0 runCases ≡ []
-unfolding field bit isInstruction packedOf flagsOf operandA operandB signedOf leaves sumOf differenceOf halvedOf answers aluAt aluOf isMove operation alu flagsAfter stores waitAt nextPosition waitSum positionAfter execute stop advance interpret storedBy journalPairs journalWords
+unfolding field bit isInstruction packedOf flagsOf operandA operandB signedOf leaves sumOf differenceOf halvedOf answers aluAt aluOf isMove operation alu flagsAfter stores waitAt nextPosition waitSum positionAfter execute stop advance interpret storedBy hasPair noting within runOne runNoted journalWords
 runs = refl
 
 pub gates : failures gateHolds 0 gateCases ≡ []

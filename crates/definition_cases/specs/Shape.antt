@@ -1,6 +1,6 @@
 -- Generated cases of both engines: inputs, what the reference emulator gave, and whether the model's definitions give the same. A test of
 -- the definitions of document 01, "Machine and instruction word", "Clocks", "File run and journal" and "Why a call is turned down", and of
--- document 02, CR 3, CR 5, CR 6 and CR 7.
+-- document 02, CR 3, CR 5, CR 6, CR 7 and CR 11.
 use Prim.Native.Nat.{ℕ, suc}
 use mathlib.Core.Bool.{Bool, true, false, cond, _&&_}
 use mathlib.Core.List.{List, [], _∷_}
@@ -11,7 +11,7 @@ use Rattle.model.specs.declared.Ending.{Ending}
 use Rattle.model.specs.declared.Ending.the-variants.{Finished, Outside, NoInstruction}
 use Rattle.model.specs.Board.{boardWith}
 use Rattle.model.specs.Interpreter.{begin, interpret}
-use Rattle.model.specs.Journal.{journalPairs, journalWords}
+use Rattle.model.specs.Journal.{Noted, fresh, runNoted, completes, journalWords}
 use Rattle.model.specs.GateMachine.{gateRun}
 use Rattle.model.specs.Packed.{packedOf, flagsOf, packedMachine, latchWords}
 use Rattle.model.specs.Refusals.{verdictNumber, runVerdict, gateVerdict}
@@ -23,29 +23,38 @@ same [] (y ∷ ys) = false
 same (x ∷ xs) [] = false
 same (x ∷ xs) (y ∷ ys) = eqb x y && same xs ys
 
--- ---- runs of the interpreter, with the journal of a file run; an ending is its number
+-- ---- runs of the interpreter, each with two file runs: with a pair for each instruction, and with so many pairs; an ending is its number
 
 abbrev pub endingNumber : Ending → ℕ
 endingNumber Finished = 0
 endingNumber Outside = 1
 endingNumber NoInstruction = 2
 
+-- finished, undone, or journal full
+abbrev pub fileNumber : Noted → ℕ
+fileNumber k = cond (k .full) 2 (cond (completes k) 0 1)
+
+-- how a file run ended, how many instructions ran, and its journal
+abbrev pub noteHolds : Noted → (ending ran : ℕ) (journal : List ℕ) → Bool
+noteHolds k ending ran journal = eqb (fileNumber k) ending && eqb (k .run .ran) ran && same (journalWords (k .pairs)) journal
+
 pub data RunCase : Type 0 where
-  runCase : (memory regs : List ℕ) (flags bottom : ℕ) (waits : List ℕ) (position n : ℕ) (memory′ regs′ : List ℕ) (flags′ : ℕ) (journal : List ℕ) (ran clocks ending position′ : ℕ) → RunCase
+  runCase : (memory regs : List ℕ) (flags bottom : ℕ) (waits : List ℕ) (position n : ℕ) (memory′ regs′ : List ℕ) (flags′ ran clocks ending position′ : ℕ) (ample ran₁ : ℕ) (journal₁ : List ℕ) (room scant ran₂ : ℕ) (journal₂ : List ℕ) → RunCase
 
 abbrev pub runHolds : RunCase → Bool
-runHolds (runCase memory regs flags bottom waits position n memory′ regs′ flags′ journal ran clocks ending position′) =
+runHolds (runCase memory regs flags bottom waits position n memory′ regs′ flags′ ran clocks ending position′ ample ran₁ journal₁ room scant ran₂ journal₂) =
     let start = begin (packedMachine regs flags) memory position in
     let board = boardWith bottom waits in
     let r = interpret board n start in
     same (r .memory) memory′
     && same (r .machine .regs) regs′
     && eqb (packedOf (r .machine .flags)) flags′
-    && same (journalWords (journalPairs board n start)) journal
     && eqb (r .ran) ran
     && eqb (r .clocks) clocks
     && eqb (endingNumber (r .ending)) ending
     && eqb (r .position) position′
+    && noteHolds (runNoted board n n (fresh start [])) ample ran₁ journal₁
+    && noteHolds (runNoted board room n (fresh start [])) scant ran₂ journal₂
 
 -- ---- gate runs; a state is its registers, and in a list its flags, row, latches, position, access begun, clocks left
 

@@ -1,2 +1,4 @@
 pub mod Spending
+mod Keeping
 mod Turns
+pub mod Noting

@@ -1,162 +1,277 @@
--- The shared loop: where it stands after i instructions, one turn more, and its two ends.
+-- The shared loop: where it stands after i instructions, one turn more, and its three ends.
 use Prim.Native.Nat.{ℕ, _+_, _^_, _≤_, _<_}
-use mathlib.Core.Path.{_≡_, refl, sym, ap, subst₂, _∙_}
-use mathlib.Core.Bool.{Bool, true, false, cond}
-use mathlib.Core.List.{List, [], _∷_, _++_, append-nil}
+use mathlib.Core.Path.{_≡_, refl, sym, ap, ap₂, subst₂, _∙_}
+use mathlib.Core.Bool.{Bool, true, false, not, cond, _&&_, _||_, true≢false}
+use mathlib.Core.List.{List, [], _∷_}
 use native.Mathlib.Nat.{add-assoc}
 use native.Mathlib.Numerals.{add-one}
 use native.Mathlib.Omega.{arith}
+use lib.Dec.{eqb}
 use lib.ListN.{length}
-use lib.Seq.{sets}
+use lib.Seq.{set-set, set-getD}
 use Rattle.model.specs.declared.Machine.{Machine}
 use Rattle.model.specs.declared.Ending.the-variants.{Finished}
+use Rattle.model.specs.Words.{wordAt, storeWord, alterable}
+use Rattle.model.specs.Operands.{inMemory}
 use Rattle.model.specs.Waits.{waitAt, positionFits}
 use Rattle.model.specs.Board.{Board}
 use Rattle.model.specs.Interpreter as I
-use Rattle.model.specs.Journal.{Pair, storedBy, journalPairs, journalWords}
+use Rattle.model.specs.Journal.{Pair, storedBy, noted}
 use Rattle.model.specs.Packed.{packedOf, packedMachine}
+use Rattle.model.proofs.Cases.{onward}
 use Rattle.model.proofs.Packed.{unpacks}
-use Rattle.model.proofs.Runs.{runAt, stopped-stays, stopped-pairs, pairs-le, noted-length, noted-words}
+use Rattle.model.proofs.Runs.{runAt, stays, no-store}
 use Rattle.model.proofs.Waits.{after-fits}
 use Rattle.model.proofs.Bounds.{clocks-le}
 use Rattle.step.specs.declared.Stepped.{Stepped}
 use Rattle.step.specs.Steps.{journaled, Steps}
-use Rattle.step.proofs.Answers.{runs-on, is-stepped, next-regs, next-flags, next-words, next-places, same-regs, same-words, same-places, stops, stores, stores-none}
+use Rattle.step.proofs.Answers.{runs-on, is-stepped, next-regs, next-flags, next-words, next-places, same-regs, same-words, stops, stores, stores-none}
+use Rattle.marks.specs.declared.Noting.{Noting}
+use Rattle.marks.specs.Marks.{known, withMark, notingAt}
 use Rattle.engine.specs.declared.clocks.Spent.{Spent}
 use Rattle.engine.specs.declared.Ended.{Ended}
 use Rattle.engine.specs.Clocks.{spentOf}
-use Rattle.engine.specs.Engine.{endedAt, EngineEnds}
+use Rattle.engine.specs.Keeping.{passedBy, noRoom, Keeps, Kept, keptAt, keptAfter, keepOne, keepRun}
+use Rattle.engine.specs.Engine.{endedAt, endedOf, EngineEnds}
+
+-- two places of the loop's own, in which the step notes a store
+abbrev blank : List ℕ
+blank = 0 ∷ 0 ∷ []
 
 -- ---- one turn of the definition
 
-module _ (board : Board) {regs memory journal : List ℕ} {pairs flags : ℕ} {regs′ memory′ journal′ : List ℕ} {s : Stepped}
-    (h : Steps regs memory (board .bottom) journal pairs flags regs′ memory′ journal′ s) (p i c : ℕ) where
+module _ (board : Board) {regs memory : List ℕ} {flags : ℕ} {regs′ memory′ pair : List ℕ} {s : Stepped}
+    (h : Steps regs memory (board .bottom) blank 0 flags regs′ memory′ pair s) where
   abbrev m : Machine
   m = packedMachine regs flags
 
-  abbrev at : I.Run
-  at = runAt m memory p i c
-
-  advances : I.goesOn (s .ending) ≡ true → {w : Spent} → w ≡ spentOf (board .waits) (record { clocks = c; position = p }) (s .oa) (s .ob) (s .stored)
-      → I.advance board at ≡ runAt (packedMachine regs′ (s .flags)) memory′ (w .position) (i + 1) (w .clocks)
+  advances : (p i c : ℕ) → I.goesOn (s .ending) ≡ true → {w : Spent} → w ≡ spentOf (board .waits) (record { clocks = c; position = p }) (s .oa) (s .ob) (s .stored)
+      → I.advance board (runAt m memory p i c) ≡ runAt (packedMachine regs′ (s .flags)) memory′ (w .position) (i + 1) (w .clocks)
   unfolding I.advance I.execute
-  advances e f =
+  advances p i c e f =
+      let at = runAt m memory p i c in
       ap (λ (t : Bool). cond t (I.execute board at) (I.stop (I.nextEnding memory m) at)) (runs-on h e)
       ∙ rw (next-regs h e, next-flags h e, next-words h e, f, is-stepped h e, add-assoc c (I.baseClocks memory m))
 
+  -- a store that was done is told by the step's count, and its address and former word by the two places
+  abbrev alters : Bool
+  alters = I.altersMemory memory m (board .bottom)
+
+  told : I.goesOn (s .ending) ≡ true → eqb (s .pairs) 1 ≡ alters
+  told e = ap (λ (s : Stepped). eqb (s .pairs) 1) (is-stepped h e) ∙ go alters
+    where
+      go : (t : Bool) → eqb (cond t 1 0) 1 ≡ t
+      go true = refl
+      go false = refl
+
+  places-of : I.goesOn (s .ending) ≡ true → alters ≡ true → pair ≡ I.addressB memory m ∷ I.valueB memory m ∷ []
+  places-of e t = next-places h e ∙ ap (λ (b : Bool). cond b (I.addressB memory m ∷ I.valueB memory m ∷ []) blank) t
+
+  -- taken back, it leaves the memory before
+  back : I.goesOn (s .ending) ≡ true → alters ≡ true → storeWord memory′ (I.addressB memory m) (I.valueB memory m) ≡ memory
+  back e t =
+      ap (λ (l : List ℕ). storeWord l (I.addressB memory m) (I.valueB memory m)) (next-words h e)
+      ∙ go (I.isStored memory m) (inMemory (I.opB memory m)) (alterable (board .bottom) (I.addressB memory m)) (I.addressB memory m) _ _ t
+    where
+      go : (s b v : Bool) (a x f : ℕ) → ((s && b) && v) ≡ true
+          → storeWord (cond s (cond b (cond v (storeWord memory a x) memory) memory) memory) a (cond b (wordAt memory a) f) ≡ memory
+      go true true true a x f t = set-set memory a x (wordAt memory a) ∙ set-getD memory a 0
+      go true true false a x f t = absurd (true≢false (sym t))
+      go true false v a x f t = absurd (true≢false (sym t))
+      go false b v a x f t = absurd (true≢false (sym t))
+
+-- ---- one instruction kept, and none more after a stop
+
+kept-none : (board : Board) (r after : I.Run) (places map : List ℕ) (pairs : ℕ) → storedBy (board .bottom) r ≡ [] → I.advance board r ≡ after
+    → keepOne board (keptAt r places map pairs) ≡ keptAt after places map pairs
+unfolding keepOne keptAfter
+kept-none board r after places map pairs e f = rw (e, f)
+
+stopped-kept : (board : Board) (r : I.Run) (places map : List ℕ) (pairs : ℕ) → I.goesOn (r .ending) ≡ false
+    → keepOne board (keptAt r places map pairs) ≡ keptAt r places map pairs
+stopped-kept board r places map pairs e = kept-none board r r places map pairs (no-store board (board .bottom) r e) (stays board r e)
+
+pub full-kept : (board : Board) (k : Kept) → k .full ≡ true → keepOne board k ≡ k
+unfolding keepOne
+full-kept board k e = rw e
+
+-- from an instruction that changes nothing on, all are alike
+kept-on : (board : Board) (k₀ k : Kept) {i n : ℕ} → i ≤ n → keepRun board i k₀ ≡ k → keepOne board k ≡ k → keepRun board n k₀ ≡ k
+unfolding keepRun
+kept-on board k₀ k h e s = onward (λ (j : ℕ). keepRun board j k₀ ≡ k) h e (λ j _ p. ap (keepOne board) p ∙ s)
+
+abbrev filled : I.Run → (places map : List ℕ) → (pairs : ℕ) → Kept
+filled r places map pairs = record { run = r; places = places; map = map; pairs = pairs; full = true }
+
+kept-store : (board : Board) (r after : I.Run) (places map : List ℕ) (pairs : ℕ) (p : Pair) → storedBy (board .bottom) r ≡ p ∷ [] → I.advance board r ≡ after
+    → keepOne board (keptAt r places map pairs)
+    ≡ cond (passedBy map places pairs (p .address)) (keptAt after places map pairs)
+    (cond (noRoom places pairs) (filled r places map pairs)
+    (keptAt after (noted places pairs (p .address) (p .former)) (withMark map (p .address)) (pairs + 1)))
+unfolding keepOne keptAfter
+kept-store board r after places map pairs p e f = rw (e, f)
+
 -- ---- the loop
 
-module _ (memory₀ : List ℕ) (board : Board) (from : ℕ) (journal₀ : List ℕ) (start : Machine) (count : ℕ) where
-  abbrev first : I.Run
-  first = I.begin start memory₀ from
-
-  abbrev pairsAt : ℕ → List Pair
-  pairsAt i = journalPairs board i first
+module _ (memory₀ : List ℕ) (board : Board) (from : ℕ) (journal₀ map₀ : List ℕ) (pairs₀ : ℕ) (start : Machine) (count : ℕ) where
+  abbrev first : Kept
+  first = keptAt (I.begin start memory₀ from) journal₀ map₀ pairs₀
 
   -- after i instructions, all of which ran
-  pub record At (memory journal regs : List ℕ) (flags position clocks pairs i : ℕ) : Type 0 where
-    pub state : I.interpret board i first ≡ runAt (packedMachine regs flags) memory position i clocks
-    pub counted : pairs ≡ length (pairsAt i)
-    pub journaled : journal ≡ sets journal₀ 0 (journalWords (pairsAt i))
+  pub record At (memory journal map regs : List ℕ) (flags position clocks pairs i : ℕ) : Type 0 where
+    pub state : keepRun board i first ≡ keptAt (runAt (packedMachine regs flags) memory position i clocks) journal map pairs
+    pub ran : I.interpret board i (I.begin start memory₀ from) ≡ runAt (packedMachine regs flags) memory position i clocks
     pub fits : positionFits (board .waits) position ≡ true
     pub below : i ≤ count
     pub words : length memory ≡ length memory₀
     pub places : length journal ≡ length journal₀
+    pub marks : length map ≡ length map₀
 
-module _ {memory₀ : List ℕ} {board : Board} {from : ℕ} {journal₀ : List ℕ} {start : Machine} {count : ℕ} {memory journal regs : List ℕ} {flags position clocks pairs i : ℕ}
-    (a : At memory₀ board from journal₀ start count memory journal regs flags position clocks pairs i) where
-  abbrev run₀ : I.Run
-  run₀ = first memory₀ board from journal₀ start count
-
-  abbrev pairsTo : ℕ → List Pair
-  pairsTo = pairsAt memory₀ board from journal₀ start count
+module _ {memory₀ : List ℕ} {board : Board} {from : ℕ} {journal₀ map₀ : List ℕ} {pairs₀ : ℕ} {start : Machine} {count : ℕ} {memory journal map regs : List ℕ} {flags position clocks pairs i : ℕ}
+    (a : At memory₀ board from journal₀ map₀ pairs₀ start count memory journal map regs flags position clocks pairs i) where
+  abbrev first′ : Kept
+  first′ = first memory₀ board from journal₀ map₀ pairs₀ start count
 
   abbrev here : I.Run
   here = runAt (packedMachine regs flags) memory position i clocks
 
+  -- the end of a run that comes to k
+  ends : (k : Kept) → keepRun board count first′ ≡ k → {e : Ended} → e ≡ endedOf start k → {memory′ journal′ map′ : List ℕ}
+      → memory′ ≡ k .run .memory → journal′ ≡ k .places → map′ ≡ k .map → EngineEnds memory₀ board from journal₀ map₀ pairs₀ start count memory′ journal′ map′ e
+  ends k q e w p n = record { result = rw q e; words = rw q w; places = rw q p; marks = rw q n }
+
   module _ (less : i < count) where
     -- with waits of 16 bits and counts of 32 bits, the clocks fit 64 bits by far
     pub clocks-fit : ((p : ℕ) → waitAt (board .waits) p ≤ 65535) → count < 2 ^ 32 → clocks < 2 ^ 61
-    clocks-fit short few = omega (arith, ap (λ (r : I.Run). r .clocks) (a .state), clocks-le board 65535 short i run₀)
+    clocks-fit short few = omega (arith, ap (λ (r : I.Run). r .clocks) (a .ran), clocks-le board 65535 short i (I.begin start memory₀ from))
 
-    module _ {regs′ memory′ journal′ : List ℕ} {s : Stepped} (h : Steps regs memory (board .bottom) journal pairs flags regs′ memory′ journal′ s) where
-      next : I.interpret board (i + 1) run₀ ≡ I.advance board here
-      unfolding I.interpret
-      next = ap (λ (n : ℕ). I.interpret board n run₀) (add-one i) ∙ ap (I.advance board) (a .state)
+    next : keepRun board (i + 1) first′ ≡ keepOne board (keptAt here journal map pairs)
+    unfolding keepRun
+    next = ap (λ (n : ℕ). keepRun board n first′) (add-one i) ∙ ap (keepOne board) (a .state)
 
-      next-pairs : pairsTo (i + 1) ≡ pairsTo i ++ storedBy (board .bottom) here
-      unfolding journalPairs
-      next-pairs = ap pairsTo (add-one i) ∙ ap (λ (r : I.Run). pairsTo i ++ storedBy (board .bottom) r) (a .state)
+    ran-on : I.interpret board (i + 1) (I.begin start memory₀ from) ≡ I.advance board here
+    unfolding I.interpret
+    ran-on = ap (λ (n : ℕ). I.interpret board n (I.begin start memory₀ from)) (add-one i) ∙ ap (I.advance board) (a .ran)
 
-      pub turn : I.goesOn (s .ending) ≡ true → {w : Spent} → w ≡ spentOf (board .waits) (record { clocks = clocks; position = position }) (s .oa) (s .ob) (s .stored)
-          → count < 2 ^ 32 → length memory′ ≡ length memory → length journal′ ≡ length journal
-          → At memory₀ board from journal₀ start count memory′ journal′ regs′ (s .flags) (w .position) (w .clocks) (s .pairs) (i + 1)
-      turn e f few lm lj =
-          let before : Machine = packedMachine regs flags in
-          let p : Pair = record { address = I.addressB memory before; former = I.valueB memory before } in
-          let stored = I.altersMemory memory before (board .bottom) in
-          let q : pairsTo (i + 1) ≡ pairsTo i ++ cond stored (p ∷ []) [] =
-          next-pairs ∙ ap (λ (l : List Pair). pairsTo i ++ l) (stores h board position i clocks e) in
-          let below : pairs < count = omega (arith, a .counted, pairs-le board i run₀) in
+    module _ {regs′ memory′ pair : List ℕ} {s : Stepped} (h : Steps regs memory (board .bottom) blank 0 flags regs′ memory′ pair s) where
+      pub stopped : I.goesOn (s .ending) ≡ false → {e : Ended} → e ≡ endedAt false (s .ending) (packedMachine regs′ flags) position i clocks pairs
+          → EngineEnds memory₀ board from journal₀ map₀ pairs₀ start count memory′ journal map e
+      unfolding I.stop
+      stopped e g =
+          let last : I.Run = I.stop (s .ending) here in
+          let one = next ∙ kept-none board here last journal map pairs (stores-none h board position i clocks e) (stops h board position i clocks e) in
+          ends (keptAt last journal map pairs)
+          (kept-on board first′ (keptAt last journal map pairs) (omega arith) one (stopped-kept board last journal map pairs e))
+          (rw (g, same-regs h e)) (same-words h e) refl refl
+
+      -- the instruction ran, and its store was kept
+      module _ (e : I.goesOn (s .ending) ≡ true) {memory″ journal′ map′ : List ℕ} {k : Noting}
+          (g : Keeps memory′ journal map pairs (eqb (s .pairs) 1) (wordAt pair 0) (wordAt pair 1) memory″ journal′ map′ k) where
+        abbrev b : Machine
+        b = packedMachine regs flags
+
+        -- as it was kept: it goes on, or the journal is full
+        record Goes (after : I.Run) : Type 0 where
+          onward : k .full ≡ false → (keepRun board (i + 1) first′ ≡ keptAt after journal′ map′ (k .pairs)) × (memory″ ≡ memory′)
+          ended : k .full ≡ true
+              → (keepRun board (i + 1) first′ ≡ filled here journal map pairs) × (memory″ ≡ memory) × (journal′ ≡ journal) × (map′ ≡ map)
+
+        -- a test that passes it by, that finds no room, that finds room
+        passes : (after : I.Run) → (not (eqb (s .pairs) 1) || passedBy map journal pairs (wordAt pair 0)) ≡ true
+            → keepOne board (keptAt here journal map pairs) ≡ keptAt after journal map pairs → Goes after
+        passes after t q =
+            record {
+              onward = λ f. (next ∙ q ∙ rw (rw t at (g .places), rw t at (g .marks), rw t at (g .result)), rw t at (g .words));
+              ended = λ f. absurd (true≢false (sym f ∙ ap (λ (n : Noting). n .full) (rw t at (g .result))));
+            }
+
+        -- a store: known, without room, noted
+        stored : (p : Pair) → Keeps memory′ journal map pairs true (p .address) (p .former) memory″ journal′ map′ k → (after : I.Run)
+            → keepRun board (i + 1) first′
+            ≡ cond (passedBy map journal pairs (p .address)) (keptAt after journal map pairs)
+            (cond (noRoom journal pairs) (filled here journal map pairs)
+            (keptAt after (noted journal pairs (p .address) (p .former)) (withMark map (p .address)) (pairs + 1)))
+            → storeWord memory′ (p .address) (p .former) ≡ memory
+            → (x : Bool) → passedBy map journal pairs (p .address) ≡ x → (y : Bool) → noRoom journal pairs ≡ y → Goes after
+        stored p g after kept undo true c y d =
+            record {
+              onward = λ f. (rw c at kept ∙ rw (rw c at (g .places), rw c at (g .marks), rw c at (g .result)), rw c at (g .words));
+              ended = λ f. absurd (true≢false (sym f ∙ ap (λ (n : Noting). n .full) (rw c at (g .result))));
+            }
+        stored p g after kept undo false c true d =
+            record {
+              onward = λ f. absurd (true≢false (sym (ap (λ (n : Noting). n .full) (rw (c, d) at (g .result))) ∙ f));
+              ended = λ f. (rw (c, d) at kept, rw (c, d) at (g .words) ∙ undo, rw (c, d) at (g .places), rw (c, d) at (g .marks));
+            }
+        stored p g after kept undo false c false d =
+            record {
+              onward = λ f. (rw (c, d) at kept ∙ rw (rw (c, d) at (g .places), rw (c, d) at (g .marks), rw (c, d) at (g .result)), rw (c, d) at (g .words));
+              ended = λ f. absurd (true≢false (sym f ∙ ap (λ (n : Noting). n .full) (rw (c, d) at (g .result))));
+            }
+
+        goes : (after : I.Run) → I.advance board here ≡ after → Goes after
+        goes after n = by (alters board h) refl
+          where
+            by : (t : Bool) → alters board h ≡ t → Goes after
+            by false q =
+                let no : eqb (s .pairs) 1 ≡ false = told board h e ∙ q in
+                passes after (rw no)
+                (kept-none board here after journal map pairs (stores h board position i clocks e ∙ rw q) n)
+            by true q =
+                let yes : eqb (s .pairs) 1 ≡ true = told board h e ∙ q in
+                let at : wordAt pair 0 ≡ I.addressB memory b = ap (λ (l : List ℕ). wordAt l 0) (places-of board h e q) in
+                let was : wordAt pair 1 ≡ I.valueB memory b = ap (λ (l : List ℕ). wordAt l 1) (places-of board h e q) in
+                let p : Pair = record { address = I.addressB memory b; former = I.valueB memory b } in
+                let kept = next ∙ kept-store board here after journal map pairs p (stores h board position i clocks e ∙ rw q) n in
+                let g′ : Keeps memory′ journal map pairs true (p .address) (p .former) memory″ journal′ map′ k = rw (yes, at, was) at g in
+                stored p g′ after kept (back board h e q) (passedBy map journal pairs (p .address)) refl (noRoom journal pairs) refl
+
+      pub turn : (e : I.goesOn (s .ending) ≡ true) {memory″ journal′ map′ : List ℕ} {k : Noting}
+          (g : Keeps memory′ journal map pairs (eqb (s .pairs) 1) (wordAt pair 0) (wordAt pair 1) memory″ journal′ map′ k) → k .full ≡ false
+          → {w : Spent} → w ≡ spentOf (board .waits) (record { clocks = clocks; position = position }) (s .oa) (s .ob) (s .stored)
+          → length memory″ ≡ length memory → length journal′ ≡ length journal → length map′ ≡ length map
+          → At memory₀ board from journal₀ map₀ pairs₀ start count memory″ journal′ map′ regs′ (s .flags) (w .position) (w .clocks) (k .pairs) (i + 1)
+      turn e g f {w} d lm lj lp =
+          let q = advances board h position i clocks e d in
+          let (kept, same) = goes e g (runAt (packedMachine regs′ (s .flags)) memory′ (w .position) (i + 1) (w .clocks)) q .onward f in
           record {
-            state = next ∙ advances board h position i clocks e f;
-            counted =
-                ap (λ (s : Stepped). s .pairs) (is-stepped h e) ∙ noted-length (pairsTo i) p pairs (a .counted) (omega arith) stored
-                ∙ ap length (sym q);
-            journaled =
-                next-places h e ∙ noted-words (pairsTo i) p pairs (a .counted) journal journal₀ (a .journaled) stored
-                ∙ ap (λ (l : List Pair). sets journal₀ 0 (journalWords l)) (sym q);
-            fits = rw f (after-fits (board .waits) _ position (a .fits));
+            state = kept ∙ rw same;
+            ran = ran-on ∙ q ∙ rw same;
+            fits = rw d (after-fits (board .waits) _ position (a .fits));
             below = omega arith;
             words = lm ∙ a .words;
             places = lj ∙ a .places;
+            marks = lp ∙ a .marks;
           }
 
-      pub stopped : I.goesOn (s .ending) ≡ false → {ended : Ended} → ended ≡ endedAt (s .ending) (packedMachine regs′ flags) position i clocks pairs
-          → EngineEnds memory₀ board from journal₀ start count memory′ journal′ ended
-      unfolding I.stop
-      stopped e g =
-          let last : I.interpret board (i + 1) run₀ ≡ I.stop (s .ending) here = next ∙ stops h board position i clocks e in
-          let out : I.goesOn (I.interpret board (i + 1) run₀ .ending) ≡ false = ap (λ (r : I.Run). I.goesOn (r .ending)) last ∙ e in
-          let ran : I.interpret board count run₀ ≡ I.stop (s .ending) here = stopped-stays board run₀ (omega arith) out ∙ last in
-          let same : pairsTo count ≡ pairsTo i =
-          stopped-pairs board run₀ (omega arith) out ∙ next-pairs
-          ∙ ap (λ (l : List Pair). pairsTo i ++ l) (stores-none h board position i clocks e) ∙ append-nil (pairsTo i) in
-          record {
-            result = rw (g, ran, same, same-regs h e, a .counted);
-            words = rw (ran, same-words h e);
-            places = same-places h e ∙ a .journaled ∙ ap (λ (l : List Pair). sets journal₀ 0 (journalWords l)) (sym same);
-          }
+      pub full : (e : I.goesOn (s .ending) ≡ true) {memory″ journal′ map′ : List ℕ} {k : Noting}
+          (g : Keeps memory′ journal map pairs (eqb (s .pairs) 1) (wordAt pair 0) (wordAt pair 1) memory″ journal′ map′ k) → k .full ≡ true
+          → {m : Machine} → m ≡ start → {d : Ended} → d ≡ endedAt true Finished m position i clocks pairs → EngineEnds memory₀ board from journal₀ map₀ pairs₀ start count memory″ journal′ map′ d
+      full e g f is q =
+          let (kept, same, places, marks) = goes e g (I.advance board here) refl .ended f in
+          ends (filled here journal map pairs)
+          (kept-on board first′ (filled here journal map pairs) (omega arith) kept (full-kept board (filled here journal map pairs) refl))
+          (q ∙ ap (λ (m : Machine). endedAt true Finished m position i clocks pairs) is) same places marks
 
-  pub finished : count ≤ i → {ended : Ended} → ended ≡ endedAt Finished (packedMachine regs flags) position i clocks pairs
-      → EngineEnds memory₀ board from journal₀ start count memory journal ended
+  pub finished : count ≤ i → {e : Ended} → e ≡ endedAt false Finished (packedMachine regs flags) position i clocks pairs
+      → EngineEnds memory₀ board from journal₀ map₀ pairs₀ start count memory journal map e
   finished h g =
-      let e : count ≡ i = omega (arith, a .below) in
-      record {
-        result = rw (g, e, a .state, a .counted);
-        words = rw (e, a .state);
-        places = a .journaled ∙ ap (λ (n : ℕ). sets journal₀ 0 (journalWords (pairsTo n))) (sym e);
-      }
+      let n : count ≡ i = omega (arith, a .below) in
+      ends (keptAt here journal map pairs) (ap (λ (m : ℕ). keepRun board m first′) n ∙ a .state) g refl refl refl
 
 -- ---- from the packed flags of a start
 
-pub begins : {memory : List ℕ} {board : Board} {from : ℕ} {journal regs : List ℕ} {flags count : ℕ} → positionFits (board .waits) from ≡ true
-    → At memory board from journal (packedMachine regs flags) count memory journal regs flags from 0 0 0
-unfolding I.interpret journalPairs journalWords
+pub begins : {memory : List ℕ} {board : Board} {from : ℕ} {journal map : List ℕ} {pairs : ℕ} {regs : List ℕ} {flags count : ℕ} → positionFits (board .waits) from ≡ true
+    → At memory board from journal map pairs (packedMachine regs flags) count memory journal map regs flags from 0 pairs 0
+unfolding I.interpret keepRun
 begins fits =
-    record {
-      state = refl;
-      counted = refl;
-      journaled = refl;
-      fits = fits;
-      below = omega arith;
-      words = refl;
-      places = refl;
-    }
+    record { state = refl; ran = refl; fits = fits; below = omega arith; words = refl; places = refl; marks = refl }
 
-pub from-start : {memory : List ℕ} {board : Board} {from position : ℕ} {journal : List ℕ} {start : Machine} {flags count : ℕ} {memory′ journal′ : List ℕ} {e : Ended}
-    → flags ≡ packedOf (start .flags) → position ≡ from → EngineEnds memory board position journal (packedMachine (start .regs) flags) count memory′ journal′ e
-    → EngineEnds memory board from journal start count memory′ journal′ e
-from-start {memory} {board} {from} {position} {journal} {start} {flags} {count} {memory′} {journal′} {e} packs there h =
-    let same : packedMachine (start .regs) flags ≡ start = rw (packs, unpacks (start .flags)) in
-    subst₂ (λ (p : ℕ) (s : Machine). EngineEnds memory board p journal s count memory′ journal′ e) there same h
+pub same-start : {start : Machine} {flags : ℕ} → flags ≡ packedOf (start .flags) → packedMachine (start .regs) flags ≡ start
+same-start {start} packs = rw (packs, unpacks (start .flags))
+
+pub from-start : {memory : List ℕ} {board : Board} {from position : ℕ} {journal map : List ℕ} {pairs : ℕ} {start : Machine} {flags count : ℕ} {memory′ journal′ map′ : List ℕ} {e : Ended}
+    → flags ≡ packedOf (start .flags) → position ≡ from → EngineEnds memory board position journal map pairs (packedMachine (start .regs) flags) count memory′ journal′ map′ e
+    → EngineEnds memory board from journal map pairs start count memory′ journal′ map′ e
+from-start {memory} {board} {from} {position} {journal} {map} {pairs} {start} {flags} {count} {memory′} {journal′} {map′} {e} packs there h =
+    subst₂ (λ (p : ℕ) (s : Machine). EngineEnds memory board p journal map pairs s count memory′ journal′ map′ e) there (same-start packs) h

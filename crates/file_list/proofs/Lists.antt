@@ -1,20 +1,16 @@
--- The files of a flat list, one by one; sums and tests over the files from one on; and the capped sum in the verdict.
-use Prim.Native.Nat.{ℕ, zero, suc, _+_, _*_, _/_, _≤_, _<_, min}
+-- The files of a flat list, one by one; the sum and the test over the files from one on.
+use Prim.Native.Nat.{ℕ, zero, suc, _+_, _*_, _/_, _≤_, _<_}
 use mathlib.Core.Path.{_≡_, refl, sym, ap, _∙_}
 use mathlib.Core.Bool.{Bool, true, false, _&&_}
 use mathlib.Core.List.{List, [], _∷_}
-use native.Mathlib.Nat.{add-zero, min-eq-left, min-eq-right}
+use native.Mathlib.Nat.{add-zero}
 use native.Mathlib.Numerals.{add-one}
 use native.Mathlib.Omega.{arith}
-use lib.Dec.{leb}
 use lib.ListN.{length, getD, drop, drop-of-length-le, List·getD-eq-default}
 use lib.Seq.{drop-cons, drop-drop, getD-drop}
-use borrow.Author.Tests.{leb-true, leb-false}
 use Rattle.model.specs.Words.{wordAt}
-use Rattle.model.specs.declared.Verdict.{Verdict}
-use Rattle.model.specs.Refusals.{mostInstructions, _then_, memoryFits, bottomFits, journalFits, fileVerdict}
 use Rattle.traverses.specs.declared.File.{File}
-use Rattle.traverses.specs.Files.{fileIn, filesFrom, filesIn, fileAt, wanted, sizes, placed, allPlaced}
+use Rattle.traverses.specs.Files.{fileIn, filesFrom, filesIn, fileAt, sizes, placed, allPlaced}
 
 -- ---- one by one
 
@@ -51,10 +47,6 @@ module _ (fs : List File) (i : ℕ) {f : File} (e : f ≡ getD fs i (fileIn []))
   pub one-more : drop i fs ≡ f ∷ drop (i + 1) fs
   one-more = rw (add-one, e) (drop-cons fs i (fileIn []) h)
 
-  pub wanted-goes : (sum : ℕ) {w : ℕ} → sum + wanted (drop i fs) ≡ w → sum + f .size + f .count + wanted (drop (i + 1) fs) ≡ w
-  unfolding wanted
-  wanted-goes sum so-far = omega (arith, ap wanted one-more)
-
   pub sizes-goes : (sum : ℕ) {w : ℕ} → sum + sizes (drop i fs) ≡ w → sum + f .size + sizes (drop (i + 1) fs) ≡ w
   unfolding sizes
   sizes-goes sum so-far = omega (arith, ap sizes one-more)
@@ -75,10 +67,6 @@ module _ (fs : List File) (i : ℕ) (h : length fs ≤ i) where
   pub none-left : drop i fs ≡ []
   none-left = drop-of-length-le fs {i = i} h
 
-  pub wanted-ends : {sum w : ℕ} → sum + wanted (drop i fs) ≡ w → sum ≡ w
-  unfolding wanted
-  wanted-ends so-far = omega (arith, ap wanted none-left)
-
   pub sizes-ends : {sum w : ℕ} → sum + sizes (drop i fs) ≡ w → sum ≡ w
   unfolding sizes
   sizes-ends so-far = omega (arith, ap sizes none-left)
@@ -86,19 +74,3 @@ module _ (fs : List File) (i : ℕ) (h : length fs ≤ i) where
   pub placed-ends : (memory : List ℕ) (bottom : ℕ) {w : Bool} → allPlaced (drop i fs) memory bottom ≡ w → true ≡ w
   unfolding allPlaced
   placed-ends memory bottom so-far = sym (ap (λ (l : List File). allPlaced l memory bottom) none-left) ∙ so-far
-
--- ---- the cap
-
-pub capped-over : (n sum rest : ℕ) → sum + rest ≡ n → mostInstructions < sum → 65_537 ≡ min n (mostInstructions + 1)
-capped-over n sum rest e h = sym (min-eq-right (omega arith))
-
-pub capped-exact : (n : ℕ) {sum : ℕ} → sum ≡ n → sum ≤ mostInstructions → sum ≡ min n (mostInstructions + 1)
-capped-exact n e h = e ∙ sym (min-eq-left (omega arith))
-
-pub capped-fits : (memory : List ℕ) (bottom : ℕ) (journal : List ℕ) (n : ℕ) → fileVerdict memory bottom journal (min n (mostInstructions + 1)) ≡ fileVerdict memory bottom journal n
-unfolding fileVerdict
-capped-fits memory bottom journal n = ap (λ (v : Verdict). memoryFits memory then bottomFits memory bottom then v) (go (leb n mostInstructions) refl)
-  where
-    go : (b : Bool) → leb n mostInstructions ≡ b → journalFits journal (min n (mostInstructions + 1)) ≡ journalFits journal n
-    go true e = ap (journalFits journal) (sym (capped-exact n refl (leb-true n mostInstructions e)))
-    go false e = rw (e, min-eq-right {n = 65_537} {m = n} (omega (arith, leb-false n mostInstructions e)))

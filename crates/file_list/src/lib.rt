@@ -8,7 +8,6 @@ use refusals::demand;
 use refusals::then;
 use sums::all_placed;
 use sums::sizes;
-use sums::wanted_capped;
 use traverses::File;
 use verdicts::file_verdict;
 ghost use mathlib.Core.Path.{_≡_};
@@ -72,15 +71,14 @@ fn version_fits(version: u32) -> Verdict
 pub fn traverse_verdict(
     memory: &[u32],
     bottom: u32,
-    journal: &[u32],
     words: &[u32],
     files: &[u32],
     version: u32,
 ) -> Verdict
-    ensures { λ r. ⌜ r ≡ traverseVerdict (now (memory .entry)) bottom (now (journal .entry)) (now (words .entry)) (filesIn (now (files .entry))) version ⌝ }
+    ensures { λ r. ⌜ r ≡ traverseVerdict (now (memory .entry)) bottom (now (words .entry)) (filesIn (now (files .entry))) version ⌝ }
 {
-    // 1, 2, 21, 5 and 6; 16, 17 and 18; 11.
-    let room = file_verdict(memory, bottom, journal, wanted_capped(files));
+    // 1, 2 and 21; 16, 17 and 18; 11.
+    let base = file_verdict(memory, bottom);
     let fit = files_fit(memory, bottom, words, files);
-    then(room, then(fit, version_fits(version)))
+    then(base, then(fit, version_fits(version)))
 }

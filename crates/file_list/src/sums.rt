@@ -3,35 +3,9 @@ use super::file_at;
 use super::file_count;
 use traverses::File;
 ghost use mathlib.Core.Path.{_≡_};
-ghost use Prim.Native.Nat.{_+_, _≤_, min};
+ghost use Prim.Native.Nat.{_≤_};
 ghost use lib.ListN.{length};
-ghost use Rattle.model.specs.Refusals.{mostInstructions};
-ghost use Rattle.traverses.specs.Files.{filesIn, wanted, sizes, placed, allPlaced};
-
-// The most words and instructions of a traverse together, and what stands for more.
-const MOST_WANTED: u64 = 65_536;
-
-const TOO_MANY: u32 = 65_537;
-
-// Words and instructions of all files, however many, or one more than the most.
-pub fn wanted_capped(files: &[u32]) -> u32
-    ensures { λ r. ⌜ r ≡ min (wanted (filesIn (now (files .entry)))) (mostInstructions + 1) ⌝ }
-{
-    let n = file_count(files);
-    let mut sum: u64 = 0;
-    let mut i: usize = 0;
-    while i < n {
-        let f = file_at(files, i);
-        let size = f.size as u64;
-        let count = f.count as u64;
-        sum = sum + size + count;
-        if MOST_WANTED < sum {
-            return TOO_MANY;
-        }
-        i += 1;
-    }
-    sum as u32
-}
+ghost use Rattle.traverses.specs.Files.{filesIn, sizes, placed, allPlaced};
 
 // The words of all files, of which there are at most 64.
 pub fn sizes(files: &[u32]) -> usize

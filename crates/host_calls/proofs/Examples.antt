@@ -11,7 +11,7 @@ use Rattle.model.specs.Operands.{operandA, operandB}
 use Rattle.model.specs.Alu.{isMove, operation, alu, flagsAfter, stores}
 use Rattle.model.specs.Waits.{waitAt, nextPosition, positionFits, waitSum, positionAfter}
 use Rattle.model.specs.Interpreter.{execute, stop, advance, interpret}
-use Rattle.model.specs.Journal.{storedBy, journalPairs, journalWords}
+use Rattle.model.specs.Journal.{storedBy, hasPair, noting, within, runOne, runNoted, journalWords}
 use Rattle.model.specs.GateMachine.{work, isAccess, remaining, positionNow, workOrWait, clock, gateRun}
 use Rattle.model.specs.Packed.{latchWords}
 use Rattle.model.specs.Refusals.{runVerdict, fileVerdict, gateVerdict}
@@ -21,8 +21,8 @@ use Rattle.image.specs.Bytes.{bytesOf, numberIn, wordBytes, wordsIn}
 use Rattle.image.specs.Format.{fieldsFor, fieldBytes, memoryFields, imageOf}
 use Rattle.image.specs.Reading.{headerVerdict, fieldVerdict, readField, readMemory, readOf}
 use Rattle.image.specs.Calls.{writeVerdict, writeReturned, writeBytes, readReturned, readWords}
-use Rattle.traverses.specs.Files.{filesFrom, filesIn, parts, wanted, sizes, allPlaced}
-use Rattle.traverses.specs.Traverse.{laid, laidPairs, partRun, partPairs, oneFile, traversed}
+use Rattle.traverses.specs.Files.{filesFrom, filesIn, parts, sizes, allPlaced}
+use Rattle.traverses.specs.Traverse.{layOne, layAll, partLaid, partNoted, oneFile, traversed}
 use Rattle.traverses.specs.Calls.{traverseVerdict, traverseReturned, traverseWords, traversePlaces}
 use Rattle.host_reading.specs.Layout.{machineIn, stateIn, lentFormed}
 use Rattle.host_words.specs.Words.{machineWords}
@@ -94,26 +94,32 @@ run-below = record { returned = refl; words = refl; parts = refl; numbers = refl
 -- r2 is moved to word 0, over the move itself
 file-run : FileCall (0x122 ∷ []) 0 (used 2) (machine 0 0 5) 1 (used 2)
     (5 ∷ []) (0 ∷ 0x122 ∷ []) (machine 1 0 5) (1 ∷ 1 ∷ []) 0
-unfolding field bit isInstruction operandA operandB answers aluAt aluOf isMove operation alu flagsAfter stores execute advance interpret storedBy journalPairs journalWords fileVerdict fileReturned fileWords filePlaces machineIn lentFormed machineWords
+unfolding field bit isInstruction operandA operandB answers aluAt aluOf isMove operation alu flagsAfter stores execute advance storedBy hasPair noting within runOne runNoted journalWords fileVerdict fileReturned fileWords filePlaces machineIn lentFormed machineWords
 file-run = record { returned = refl; words = refl; places = refl; parts = refl; numbers = refl }
 
 -- the same and one more, which is outside: memory and machine stay, even flag words of 9, and the journal has the store
 file-run-undone : FileCall (0x122 ∷ []) 0 (used 4) (0 ∷ replicate 7 0 ++ used 4) 2 (used 2)
     (0x122 ∷ []) (0 ∷ 0x122 ∷ 9 ∷ 9 ∷ []) (0 ∷ replicate 7 0 ++ used 4) (1 ∷ 1 ∷ []) 100
-unfolding field bit isInstruction operandA operandB isMove stores execute stop advance interpret storedBy journalPairs journalWords fileVerdict fileReturned fileWords filePlaces machineIn lentFormed machineWords
+unfolding field bit isInstruction operandA operandB isMove stores execute stop advance storedBy hasPair noting within runOne runNoted journalWords fileVerdict fileReturned fileWords filePlaces machineIn lentFormed machineWords
 file-run-undone = record { returned = refl; words = refl; places = refl; parts = refl; numbers = refl }
 
 -- CR 5: r2, a word with bit 14, is moved to word 1, which is then no instruction: all stays, and the journal has the store
 file-run-halted : FileCall (0x122 ∷ 0 ∷ []) 0 (used 4) (machine 0 1 0x4000) 2 (used 2)
     (0x122 ∷ 0 ∷ []) (1 ∷ 0 ∷ 9 ∷ 9 ∷ []) (machine 0 1 0x4000) (1 ∷ 1 ∷ []) 100
-unfolding field bit isInstruction operandA operandB answers aluAt aluOf isMove operation alu flagsAfter stores execute stop advance interpret storedBy journalPairs journalWords fileVerdict fileReturned fileWords filePlaces machineIn lentFormed machineWords
+unfolding field bit isInstruction operandA operandB answers aluAt aluOf isMove operation alu flagsAfter stores execute stop advance storedBy hasPair noting within runOne runNoted journalWords fileVerdict fileReturned fileWords filePlaces machineIn lentFormed machineWords
 file-run-halted = record { returned = refl; words = refl; places = refl; parts = refl; numbers = refl }
 
 -- CR 6: the store is below the bottom: it alters nothing and is not journaled
 file-run-below : FileCall (0x122 ∷ []) 1 (used 2) (machine 0 0 5) 1 (used 2)
     (0x122 ∷ []) (used 2) (machine 1 0 5) (1 ∷ 0 ∷ []) 0
-unfolding field bit isInstruction operandA operandB answers aluAt aluOf isMove operation alu flagsAfter stores execute advance interpret storedBy journalPairs journalWords fileVerdict fileReturned fileWords filePlaces machineIn lentFormed machineWords
+unfolding field bit isInstruction operandA operandB answers aluAt aluOf isMove operation alu flagsAfter stores execute advance storedBy hasPair noting within runOne runNoted journalWords fileVerdict fileReturned fileWords filePlaces machineIn lentFormed machineWords
 file-run-below = record { returned = refl; words = refl; places = refl; parts = refl; numbers = refl }
+
+-- CR 11: the store needs a pair, for which one place has no room: it is not done, and all stays, even flag words of 9
+file-run-full : FileCall (0x122 ∷ []) 0 (used 1) (replicate 8 0 ++ used 4) 1 (used 2)
+    (0x122 ∷ []) (used 1) (replicate 8 0 ++ used 4) (0 ∷ 0 ∷ []) 102
+unfolding field bit isInstruction operandA operandB isMove stores execute advance storedBy hasPair noting within runOne runNoted journalWords fileVerdict fileReturned fileWords filePlaces machineIn lentFormed machineWords
+file-run-full = record { returned = refl; words = refl; places = refl; parts = refl; numbers = refl }
 
 -- nine clocks finish one instruction: r1 is 0, CVNZ 1001, and the latches have its word and its operands
 gate-run : GateCall (0x0001_3C21 ∷ []) 0 [] [] (0 ∷ 0xFFFF_FFFF ∷ replicate 19 0) 9 (used 1)
@@ -156,32 +162,36 @@ moves = 0x122 ∷ 0x122 ∷ []
 abbrev files : List ℕ
 files = 0 ∷ 1 ∷ 0 ∷ 1 ∷ 1 ∷ 1 ∷ 1 ∷ 2 ∷ []
 
--- what the journal then holds: the first file's word and its store, then the second's
-abbrev pairs : List ℕ
-pairs = 0 ∷ 7 ∷ 0 ∷ 0x122 ∷ 1 ∷ 8 ∷ 0 ∷ 5 ∷ 9 ∷ 9 ∷ []
-
--- rule 1: the first file has run, the second is marked and leaves nothing but its pairs
-traverse-1 : TraverseCall (7 ∷ 8 ∷ []) 0 (used 10) moves files (machine 4 0 5) 1 (used 3)
-    (5 ∷ 8 ∷ []) pairs (machine 1 0 5) (2 ∷ 1 ∷ 4 ∷ []) 0
-unfolding field bit isInstruction operandA operandB answers aluAt aluOf isMove operation alu flagsAfter stores execute stop advance interpret storedBy journalPairs journalWords fileVerdict filesFrom filesIn parts wanted sizes allPlaced laid laidPairs partRun partPairs oneFile traversed traverseVerdict traverseReturned traverseWords traversePlaces machineIn lentFormed machineWords
+-- rule 1, with stores to word 1: the first file has run, with pairs for words 0 and 1; the second is marked, and leaves nothing but its one pair, for
+-- word 1, past which the journal has the first file's second pair
+traverse-1 : TraverseCall (7 ∷ 8 ∷ []) 0 (used 5) moves files (machine 4 1 5) 1 (used 3)
+    (0x122 ∷ 5 ∷ []) (1 ∷ 5 ∷ 1 ∷ 8 ∷ 9 ∷ []) (machine 1 1 5) (2 ∷ 1 ∷ 1 ∷ []) 0
+unfolding field bit isInstruction operandA operandB answers aluAt aluOf isMove operation alu flagsAfter stores execute stop advance storedBy hasPair noting within runOne runNoted journalWords fileVerdict filesFrom filesIn parts sizes allPlaced layOne layAll partLaid partNoted oneFile traversed traverseVerdict traverseReturned traverseWords traversePlaces machineIn lentFormed machineWords
 traverse-1 = record { returned = refl; words = refl; places = refl; parts = refl; numbers = refl }
 
--- rule 2: the second file, number 1, takes the first back; memory and machine stay, even flag words of 9
-traverse-2 : TraverseCall (7 ∷ 8 ∷ []) 0 (used 10) moves files (4 ∷ 0 ∷ 5 ∷ replicate 5 0 ++ used 4) 2 (used 3)
-    (7 ∷ 8 ∷ []) pairs (4 ∷ 0 ∷ 5 ∷ replicate 5 0 ++ used 4) (1 ∷ 1 ∷ 4 ∷ []) 100
-unfolding field bit isInstruction operandA operandB answers aluAt aluOf isMove operation alu flagsAfter stores execute stop advance interpret storedBy journalPairs journalWords fileVerdict filesFrom filesIn parts wanted sizes allPlaced laid laidPairs partRun partPairs oneFile traversed traverseVerdict traverseReturned traverseWords traversePlaces machineIn lentFormed machineWords
+-- rule 2: the second file, number 1, takes the first back; the journal has the words from before both; memory and machine stay, even flag words of 9
+traverse-2 : TraverseCall (7 ∷ 8 ∷ []) 0 (used 5) moves files (4 ∷ 1 ∷ 5 ∷ replicate 5 0 ++ used 4) 2 (used 3)
+    (7 ∷ 8 ∷ []) (0 ∷ 7 ∷ 1 ∷ 8 ∷ 9 ∷ []) (4 ∷ 1 ∷ 5 ∷ replicate 5 0 ++ used 4) (1 ∷ 1 ∷ 2 ∷ []) 100
+unfolding field bit isInstruction operandA operandB answers aluAt aluOf isMove operation alu flagsAfter stores execute stop advance storedBy hasPair noting within runOne runNoted journalWords fileVerdict filesFrom filesIn parts sizes allPlaced layOne layAll partLaid partNoted oneFile traversed traverseVerdict traverseReturned traverseWords traversePlaces machineIn lentFormed machineWords
 traverse-2 = record { returned = refl; words = refl; places = refl; parts = refl; numbers = refl }
+
+-- CR 11: with stores to word 0 the first file needs one pair, and three places have room for no more: the second file's word is not laid, and nothing
+-- of it runs
+traverse-full : TraverseCall (7 ∷ 8 ∷ []) 0 (used 3) moves files (4 ∷ 0 ∷ 5 ∷ replicate 5 0 ++ used 4) 2 (used 3)
+    (7 ∷ 8 ∷ []) (0 ∷ 7 ∷ 9 ∷ []) (4 ∷ 0 ∷ 5 ∷ replicate 5 0 ++ used 4) (1 ∷ 0 ∷ 1 ∷ []) 102
+unfolding field bit isInstruction operandA operandB answers aluAt aluOf isMove operation alu flagsAfter stores execute stop advance storedBy hasPair noting within runOne runNoted journalWords fileVerdict filesFrom filesIn parts sizes allPlaced layOne layAll partLaid partNoted oneFile traversed traverseVerdict traverseReturned traverseWords traversePlaces machineIn lentFormed machineWords
+traverse-full = record { returned = refl; words = refl; places = refl; parts = refl; numbers = refl }
 
 -- rule 2 with no files: finished, 0 in each place; flag words of 9 become 1
 traverse-none : TraverseCall (7 ∷ []) 0 [] [] [] (replicate 8 0 ++ used 4) 2 (used 3)
     (7 ∷ []) [] (replicate 8 0 ++ 1 ∷ 1 ∷ 1 ∷ 1 ∷ []) (0 ∷ 0 ∷ 0 ∷ []) 0
-unfolding journalWords fileVerdict filesFrom filesIn parts wanted sizes allPlaced traversed traverseVerdict traverseReturned traverseWords traversePlaces machineIn lentFormed machineWords
+unfolding journalWords fileVerdict filesFrom filesIn parts sizes allPlaced traversed traverseVerdict traverseReturned traverseWords traversePlaces machineIn lentFormed machineWords
 traverse-none = record { returned = refl; words = refl; places = refl; parts = refl; numbers = refl }
 
 -- a word laid below the bottom is 17: what is lent stays
 traverse-refused : TraverseCall (used 2) 1 (used 10) moves files (used 12) 1 (used 3)
     (used 2) (used 10) (used 12) (used 3) 17
-unfolding fileVerdict filesFrom filesIn parts wanted sizes allPlaced traverseVerdict traverseReturned traverseWords traversePlaces machineIn lentFormed machineWords
+unfolding fileVerdict filesFrom filesIn parts sizes allPlaced traverseVerdict traverseReturned traverseWords traversePlaces machineIn lentFormed machineWords
 traverse-refused = record { returned = refl; words = refl; places = refl; parts = refl; numbers = refl }
 
 -- no file has three places, before any reason to refuse

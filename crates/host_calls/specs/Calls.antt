@@ -1,6 +1,6 @@
 -- What each exported call returns and leaves in what it is lent: the calls of the interpreter, the gate machine, a traverse, the image
 -- reader and the image writer, on lent words. Document 01, "Machine and instruction word", "Clocks", "File run and journal", "Image" and "Why a call
--- is turned down"; CR 1, CR 5, CR 6 and CR 7.
+-- is turned down"; CR 1, CR 5, CR 6, CR 7 and CR 11.
 use Prim.Native.Nat.{ℕ, _%_}
 use mathlib.Core.Path.{_≡_}
 use mathlib.Core.Bool.{Bool, cond, _&&_}

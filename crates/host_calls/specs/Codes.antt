@@ -1,5 +1,5 @@
 -- The code that each call returns, and what it leaves of what it was lent. Document 01, "Why a call is turned down", and
--- document 02 number the refusals.
+-- document 02 number the refusals; CR 1, CR 5, CR 7 and CR 11.
 use Prim.Native.Nat.{ℕ}
 use mathlib.Core.Bool.{Bool, cond, _||_}
 use mathlib.Core.List.{List, [], _∷_}
@@ -30,6 +30,10 @@ stopped = 100
 abbrev pub halted : ℕ
 halted = 101
 
+-- CR 11: carried out and ended "journal full"
+abbrev pub journalFull : ℕ
+journalFull = 102
+
 -- what is lent has not the layout's lengths
 abbrev pub misfit : ℕ
 misfit = 200
@@ -43,6 +47,7 @@ runCode (RunAnswer.Refused why) = refusalNumber why
 abbrev pub fileCode : FileAnswer → ℕ
 fileCode FileAnswer.Finished = done
 fileCode FileAnswer.Undone = stopped
+fileCode FileAnswer.Full = journalFull
 fileCode (FileAnswer.Refused why) = refusalNumber why
 
 -- CR 1: a traverse under rule 1 that is carried out is done, whichever files were undone
@@ -50,6 +55,7 @@ abbrev pub traverseCode : TraverseAnswer → ℕ
 traverseCode (TraverseAnswer.Marked files) = done
 traverseCode TraverseAnswer.Finished = done
 traverseCode (TraverseAnswer.Undone file) = stopped
+traverseCode (TraverseAnswer.Full file) = journalFull
 traverseCode (TraverseAnswer.Refused why) = refusalNumber why
 
 -- the code of a call that goes on only where what is lent has the layout's lengths
@@ -57,7 +63,7 @@ abbrev pub codeIf : Bool → ℕ → ℕ
 codeIf fits code = cond fits code misfit
 
 abbrev pub carriedOut : (code : ℕ) → Bool
-carriedOut code = eqb code done || eqb code stopped || eqb code halted
+carriedOut code = eqb code done || eqb code stopped || eqb code halted || eqb code journalFull
 
 -- carried out to its end
 abbrev pub finishes : (code : ℕ) → Bool
@@ -67,7 +73,8 @@ finishes code = eqb code done
 abbrev pub afterCall : (code : ℕ) → (put former : List ℕ) → List ℕ
 afterCall code put former = cond (carriedOut code) put former
 
--- a lent machine after a file run or a traverse, which puts its machine there where it finished; "undone" leaves the words as they were
+-- a lent machine after a file run or a traverse, which puts its machine there where it finished; "undone" and "journal full" leave the words as
+-- they were
 abbrev pub afterFile : (code : ℕ) → (put former : List ℕ) → List ℕ
 afterFile code put former = cond (finishes code) put former
 
@@ -85,12 +92,13 @@ fileCounts r = r .ran ∷ r .pairs ∷ []
 abbrev pub gateCounts : GateResult → List ℕ
 gateCounts r = r .outcome .finished ∷ []
 
--- CR 1: the mask of the undone files, or the number of the file that was undone, 0 where none was; the instructions that ran in the last file run,
--- the journal's pairs
+-- CR 1: the mask of the undone files, or the number of the file that was undone or had its journal full, 0 where none was; the instructions that
+-- ran in the last file run, the journal's pairs
 abbrev pub undoneFiles : TraverseAnswer → ℕ
 undoneFiles (TraverseAnswer.Marked files) = files
 undoneFiles TraverseAnswer.Finished = 0
 undoneFiles (TraverseAnswer.Undone file) = file
+undoneFiles (TraverseAnswer.Full file) = file
 undoneFiles (TraverseAnswer.Refused why) = 0
 
 abbrev pub traverseCounts : TraverseResult → List ℕ

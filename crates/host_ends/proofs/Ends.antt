@@ -20,7 +20,7 @@ use Rattle.traverses.specs.declared.TraverseAnswer.{TraverseAnswer}
 use Rattle.traverses.specs.declared.TraverseResult.{TraverseResult}
 use Rattle.host_reading.specs.Layout.{threePlaces, twoPlaces, onePlace, machineSize, stateSize}
 use Rattle.host_words.specs.Words.{machineWords, stateWords, laid}
-use Rattle.host_calls.specs.Codes.{done, stopped, halted, carriedOut, finishes, runCode, traverseCode, undoneFiles, runCounts, fileCounts, gateCounts}
+use Rattle.host_calls.specs.Codes.{done, stopped, halted, journalFull, carriedOut, finishes, runCode, fileCode, traverseCode, undoneFiles, runCounts, fileCounts, gateCounts}
 use Rattle.host_ends.specs.Ends.{Ends, RunEnds, FileEnds, GateEnds, TraverseEnds, ReadEnds, WriteEnds}
 
 -- a refusal's number is no code of a call that was carried out
@@ -31,6 +31,7 @@ turned-down why =
       ne-eqb (refusalNumber why) done (omega arith),
       ne-eqb (refusalNumber why) stopped (omega arith),
       ne-eqb (refusalNumber why) halted (omega arith),
+      ne-eqb (refusalNumber why) journalFull (omega arith),
     )
 
 module _ (written : ℕ → Bool) (code size : ℕ) (words : List ℕ) (due : ℕ) (counts lent result : List ℕ) where
@@ -56,13 +57,16 @@ module _ (r : RunResult) (code : ℕ) (n : code ≡ runCode (r .answer)) (lent r
       let f = rw n at e in
       record { returned = n; parts = rw f; numbers = rw f }
 
-pub file-undone : (r : FileResult) (lent result result′ : List ℕ) → r .answer ≡ FileAnswer.Undone
-    → result′ ≡ laid twoPlaces (fileCounts r) result → FileEnds r lent result lent result′ stopped
-file-undone r lent result result′ e p = record { returned = rw e; parts = rw e; numbers = rw e p }
+-- "undone" and "journal full" write the result alone
+module _ (lent result result′ : List ℕ) where
+  pub file-stopped : (r : FileResult) (a : FileAnswer) → carriedOut (fileCode a) ≡ true → finishes (fileCode a) ≡ false → r .answer ≡ a
+      → result′ ≡ laid twoPlaces (fileCounts r) result → FileEnds r lent result lent result′ (fileCode a)
+  file-stopped r a w s e p = record { returned = rw e; parts = rw (e, s); numbers = rw (e, w) p }
 
-pub traverse-undone : (r : TraverseResult) (lent result result′ : List ℕ) (file : ℕ) → r .answer ≡ TraverseAnswer.Undone file
-    → result′ ≡ laid threePlaces (file ∷ r .ran ∷ r .pairs ∷ []) result → TraverseEnds r lent result lent result′ stopped
-traverse-undone r lent result result′ file e p = record { returned = rw e; parts = rw e; numbers = rw e p }
+  pub traverse-stopped : (r : TraverseResult) (file : ℕ) (a : TraverseAnswer) → carriedOut (traverseCode a) ≡ true → finishes (traverseCode a) ≡ false
+      → undoneFiles a ≡ file → r .answer ≡ a
+      → result′ ≡ laid threePlaces (file ∷ r .ran ∷ r .pairs ∷ []) result → TraverseEnds r lent result lent result′ (traverseCode a)
+  traverse-stopped r file a w s u e p = record { returned = rw e; parts = rw (e, s); numbers = rw (e, w, u) p }
 
 module _ (lent result lent′ result′ : List ℕ) where
   pub traverse-done : (r : TraverseResult) (files : ℕ) (a : TraverseAnswer) → traverseCode a ≡ done → undoneFiles a ≡ files → r .answer ≡ a

@@ -1,12 +1,13 @@
 // What a call of the host library writes at its end, and the code that it returns. Nothing is written unless the call was carried out; a file run
-// or a traverse that is undone writes its result alone.
+// or a traverse that is undone, or whose journal was full, writes its result alone.
 mod codes;
 mod places;
 
 use codes::DONE;
-use codes::HALTED;
+use codes::JOURNAL_FULL;
 pub use codes::MISFIT;
 use codes::STOPPED;
+use codes::carried_out;
 use codes::run_code;
 use gate_machine::GateAnswer;
 use gate_machine::GateResult;
@@ -31,7 +32,7 @@ pub fn end_run(r: RunResult, machine: &mut [u32], result: &mut [u64]) -> u32
 {
     let answer = r.answer;
     let code = run_code(answer);
-    if (code == DONE) | (code == STOPPED) | (code == HALTED) {
+    if carried_out(code) {
         put_machine(r.machine, machine);
         put_three(r.ran as u64, r.clocks, r.position as u64, result);
     }
@@ -47,6 +48,10 @@ pub fn end_file_run(r: FileResult, machine: &mut [u32], result: &mut [u64]) -> u
         FileAnswer::Undone => {
             put_two(r.ran as u64, r.pairs as u64, result);
             STOPPED
+        }
+        FileAnswer::Full => {
+            put_two(r.ran as u64, r.pairs as u64, result);
+            JOURNAL_FULL
         }
         FileAnswer::Finished => {
             put_machine(r.machine, machine);
@@ -80,6 +85,10 @@ pub fn end_traverse(r: TraverseResult, machine: &mut [u32], result: &mut [u64]) 
         TraverseAnswer::Undone(file) => {
             put_three(file as u64, r.ran as u64, r.pairs as u64, result);
             STOPPED
+        }
+        TraverseAnswer::Full(file) => {
+            put_three(file as u64, r.ran as u64, r.pairs as u64, result);
+            JOURNAL_FULL
         }
         TraverseAnswer::Finished => {
             put_machine(r.machine, machine);

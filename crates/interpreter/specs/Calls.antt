@@ -1,8 +1,8 @@
 -- The two public calls, run and file run: their results, the memory and the journal at exit, carried out or turned down. Document 01,
--- "Machine and instruction word", "Clocks", "File run and journal" and "Why a call is turned down"; CR 5 to CR 7.
+-- "Machine and instruction word", "Clocks", "File run and journal" and "Why a call is turned down"; CR 5 to CR 7 and CR 11.
 use Prim.Native.Nat.{ℕ}
 use mathlib.Core.Path.{_≡_}
-use mathlib.Core.Bool.{cond}
+use mathlib.Core.Bool.{Bool, cond}
 use mathlib.Core.List.{List, []}
 use lib.ListN.{length}
 use Rattle.model.specs.declared.Machine.{Machine}
@@ -13,7 +13,7 @@ use Rattle.model.specs.declared.Verdict.the-variants.{Accepted, Refused}
 use Rattle.model.specs.Words.{overlay}
 use Rattle.model.specs.Board.{Board, boardWith}
 use Rattle.model.specs.Interpreter.{goesOn, Run, begin, interpret}
-use Rattle.model.specs.Journal.{journalPairs, journalWords}
+use Rattle.model.specs.Journal.{roomIn, Noted, fresh, runNoted, completes, journalWords}
 use Rattle.model.specs.Refusals.{refusalNumber, verdictNumber, leftBy, runVerdict, fileVerdict}
 use Rattle.interpreter.specs.declared.RunAnswer.{RunAnswer}
 use Rattle.interpreter.specs.declared.RunResult.{RunResult}
@@ -59,51 +59,53 @@ pub record Runs (memory : List ℕ) (board : Board) (position : ℕ) (start : Ma
 
 -- ---- the file run
 
--- "finished" with its state where the interpreter finishes, "undone" with the start where it stopped
-abbrev pub fileEnd : Ending → Machine → Run → ℕ → FileResult
-fileEnd e start r pairs =
-    cond (goesOn e)
-    (record { answer = FileAnswer.Finished; machine = r .machine; ran = r .ran; pairs = pairs })
-    (record { answer = FileAnswer.Undone; machine = start; ran = r .ran; pairs = pairs })
+-- CR 11: "journal full"; else "finished" where the interpreter finishes, and "undone" where it stopped
+abbrev pub fileAnswerOf : (full : Bool) → Ending → FileAnswer
+fileAnswerOf full e = cond full FileAnswer.Full (cond (goesOn e) FileAnswer.Finished FileAnswer.Undone)
 
-abbrev pub fileResult : Verdict → Machine → Run → ℕ → FileResult
-fileResult Accepted start r pairs = fileEnd (r .ending) start r pairs
-fileResult (Refused why) start r pairs =
+abbrev pub fileAnswer : Noted → FileAnswer
+fileAnswer k = fileAnswerOf (k .full) (k .run .ending)
+
+-- unless it finished it returns its start
+abbrev pub fileResult : Verdict → Machine → Noted → FileResult
+fileResult Accepted start k =
+    record { answer = fileAnswer k; machine = cond (completes k) (k .run .machine) start; ran = k .run .ran; pairs = length (k .pairs) }
+fileResult (Refused why) start k =
     record { answer = FileAnswer.Refused why; machine = start; ran = 0; pairs = 0 }
 
--- "undone" leaves the memory as it was
-abbrev pub memoryEnd : Ending → List ℕ → Run → List ℕ
-memoryEnd e memory r = cond (goesOn e) (r .memory) memory
+-- and leaves the memory as it was
+abbrev pub memoryEnd : (memory : List ℕ) → Noted → List ℕ
+memoryEnd memory k = cond (completes k) (k .run .memory) memory
 
 abbrev pub fileNumber : FileAnswer → ℕ
 fileNumber FileAnswer.Finished = 0
 fileNumber FileAnswer.Undone = 0
+fileNumber FileAnswer.Full = 0
 fileNumber (FileAnswer.Refused why) = refusalNumber why
 
 -- a file run has no waits
 abbrev pub fileBoard : (bottom : ℕ) → Board
 fileBoard bottom = boardWith bottom []
 
--- what a file run of so many instructions returns, and the memory and the journal that it leaves
-unfoldable pub fileReturned : (memory : List ℕ) → (bottom : ℕ) → (journal : List ℕ) → Machine → (count : ℕ) → FileResult
-fileReturned memory bottom journal start count =
-    fileResult (fileVerdict memory bottom journal count) start (interpret (fileBoard bottom) count (begin start memory 0))
-    (length (journalPairs (fileBoard bottom) count (begin start memory 0)))
+module _ (memory : List ℕ) (bottom : ℕ) (journal : List ℕ) (start : Machine) (count : ℕ) where
+  -- the run, with a journal that begins with no pairs
+  abbrev pub wholeFile : Noted
+  wholeFile = runNoted (fileBoard bottom) (roomIn journal) count (fresh (begin start memory 0) [])
 
-unfoldable pub fileWords : (memory : List ℕ) → (bottom : ℕ) → (journal : List ℕ) → Machine → (count : ℕ) → List ℕ
-fileWords memory bottom journal start count =
-    let r = interpret (fileBoard bottom) count (begin start memory 0) in
-    leftBy (fileVerdict memory bottom journal count) (memoryEnd (r .ending) memory r) memory
+  -- what a file run of so many instructions returns, and the memory and the journal that it leaves
+  unfoldable pub fileReturned : FileResult
+  fileReturned = fileResult (fileVerdict memory bottom) start wholeFile
 
--- the pairs over the journal's first places; the places that are not used stay
-unfoldable pub filePlaces : (memory : List ℕ) → (bottom : ℕ) → (journal : List ℕ) → Machine → (count : ℕ) → List ℕ
-filePlaces memory bottom journal start count =
-    let pairs = journalWords (journalPairs (fileBoard bottom) count (begin start memory 0)) in
-    leftBy (fileVerdict memory bottom journal count) (overlay pairs journal) journal
+  unfoldable pub fileWords : List ℕ
+  fileWords = leftBy (fileVerdict memory bottom) (memoryEnd memory wholeFile) memory
 
--- what a file run promises: its result, the memory's words, the journal's places, and the number for why it was turned down
-pub record FileRuns (memory : List ℕ) (bottom : ℕ) (journal : List ℕ) (start : Machine) (count : ℕ) (memory′ journal′ : List ℕ) (r : FileResult) : Type 0 where
-  pub result : r ≡ fileReturned memory bottom journal start count
-  pub words : memory′ ≡ fileWords memory bottom journal start count
-  pub places : journal′ ≡ filePlaces memory bottom journal start count
-  pub number : fileNumber (r .answer) ≡ verdictNumber (fileVerdict memory bottom journal count)
+  -- the pairs over the journal's first places; the places that are not used stay
+  unfoldable pub filePlaces : List ℕ
+  filePlaces = leftBy (fileVerdict memory bottom) (overlay (journalWords (wholeFile .pairs)) journal) journal
+
+  -- what a file run promises: its result, the memory's words, the journal's places, and the number for why it was turned down
+  pub record FileRuns (memory′ journal′ : List ℕ) (r : FileResult) : Type 0 where
+    pub result : r ≡ fileReturned
+    pub words : memory′ ≡ fileWords
+    pub places : journal′ ≡ filePlaces
+    pub number : fileNumber (r .answer) ≡ verdictNumber (fileVerdict memory bottom)

@@ -1,4 +1,5 @@
 // The interpreter: runs of whole instructions with waits and clocks, and the file run with its undo journal.
+use engine::Ended;
 use engine::engine;
 use journal::undo;
 use model::Ending;
@@ -10,7 +11,8 @@ use verdicts::file_verdict;
 use verdicts::run_verdict;
 ghost use mathlib.Core.Path.{_≡_};
 ghost use Rattle.model.specs.Board.{boardWith};
-ghost use Rattle.interpreter.specs.Calls.{runAnswer, Runs, FileRuns};
+ghost use Rattle.interpreter.specs.Calls.{runAnswer, fileAnswerOf, Runs, FileRuns};
+ghost use Rattle.interpreter.specs.Ends.{FileEnds};
 
 pub enum RunAnswer {
     Finished,
@@ -28,9 +30,11 @@ pub struct RunResult {
     pub position: u32,
 }
 
+// Full: a store needed one address more than the journal has pairs.
 pub enum FileAnswer {
     Finished,
     Undone,
+    Full,
     Refused(Refusal),
 }
 
@@ -39,7 +43,7 @@ pub struct FileResult {
     pub answer: FileAnswer,
     pub machine: Machine,
     pub ran: u32,
-    pub pairs: u32,
+    pub pairs: usize,
 }
 
 fn run_answer(ending: Ending) -> RunAnswer
@@ -73,7 +77,18 @@ pub fn run(
         },
         Verdict::Accepted => {
             let mut none: [u32; 0] = [];
-            let e = engine(memory, bottom, waits, position, &mut none, start, count);
+            let mut map: [u32; 0] = [];
+            let e = engine(
+                memory,
+                bottom,
+                waits,
+                position,
+                &mut none,
+                &mut map,
+                0,
+                start,
+                count,
+            );
             let machine = e.machine;
             let ending = e.ending;
             let ran = e.ran;
@@ -89,8 +104,45 @@ pub fn run(
     }
 }
 
-// Up to `count` instructions from `start`, without waits; each store that can alter memory is journaled, and a run that stops before the end
-// is undone.
+// How a file run ended.
+fn file_answer(full: bool, ending: Ending) -> FileAnswer
+    ensures { λ r. ⌜ r ≡ fileAnswerOf full ending ⌝ }
+{
+    if full {
+        return FileAnswer::Full;
+    }
+    if goes_on(ending) {
+        return FileAnswer::Finished;
+    }
+    FileAnswer::Undone
+}
+
+// A file run that is not turned down. Where it does not finish, its stores are taken back.
+fn file_end(memory: &mut [u32], journal: &[u32], start: Machine, e: Ended) -> FileResult
+    ensures { λ r. ⌜ FileEnds (now (memory .entry)) (now (journal .entry)) start e (now (memory .exit)) r ⌝ }
+{
+    let ending = e.ending;
+    let answer = file_answer(e.full, ending);
+    if !e.full & goes_on(ending) {
+        let last = e.machine;
+        return FileResult {
+            answer,
+            machine: last,
+            ran: e.ran,
+            pairs: e.pairs,
+        };
+    }
+    undo(memory, journal, e.pairs);
+    FileResult {
+        answer,
+        machine: start,
+        ran: e.ran,
+        pairs: e.pairs,
+    }
+}
+
+// Up to `count` instructions from `start`, without waits; the first store to each address that can alter memory is journaled, and a run that
+// stops before the end is undone.
 pub fn file_run(
     memory: &mut [u32],
     bottom: u32,
@@ -100,7 +152,7 @@ pub fn file_run(
 ) -> FileResult
     ensures { λ r. ⌜ FileRuns (now (memory .entry)) bottom (now (journal .entry)) start count (now (memory .exit)) (now (journal .exit)) r ⌝ }
 {
-    match file_verdict(&*memory, bottom, &*journal, count) {
+    match file_verdict(&*memory, bottom) {
         Verdict::Refused(why) => FileResult {
             answer: FileAnswer::Refused(why),
             machine: start,
@@ -109,24 +161,9 @@ pub fn file_run(
         },
         Verdict::Accepted => {
             let none: [u16; 0] = [];
-            let e = engine(memory, bottom, &none, 0, journal, start, count);
-            let ending = e.ending;
-            if goes_on(ending) {
-                let last = e.machine;
-                return FileResult {
-                    answer: FileAnswer::Finished,
-                    machine: last,
-                    ran: e.ran,
-                    pairs: e.pairs,
-                };
-            }
-            undo(memory, &*journal, e.pairs);
-            FileResult {
-                answer: FileAnswer::Undone,
-                machine: start,
-                ran: e.ran,
-                pairs: e.pairs,
-            }
+            let mut map: [u32; 49_184] = [0; 49_184];
+            let e = engine(memory, bottom, &none, 0, journal, &mut map, 0, start, count);
+            file_end(memory, &*journal, start, e)
         }
     }
 }

@@ -1,1 +1,3 @@
 pub mod Journals
+pub mod Restoring
+pub mod Taking

@@ -16,26 +16,27 @@ use Rattle.model.specs.Operands.{inMemory}
 use Rattle.model.specs.Board.{Board}
 use Rattle.model.specs.Resets.{isReset}
 use Rattle.model.specs.Interpreter as I
-use Rattle.model.specs.Journal.{Pair, storedBy, journalPairs}
+use Rattle.model.specs.Journal.{Pair, storedBy, Noted, within, runOne, runNoted, fresh}
 use Rattle.model.specs.GateMachine.{Gate, gate, withRow, rows, work, isAccess, remaining, positionNow, workOrWait, clock, resetOrClock, gateRun}
-use Rattle.model.specs.Refusals.{_then_, memoryFits, bottomFits, waitsFit, resetsFit, startFits, stateFits, journalFits, runVerdict, fileVerdict, gateVerdict}
+use Rattle.model.specs.Refusals.{_then_, memoryFits, bottomFits, waitsFit, resetsFit, startFits, stateFits, runVerdict, fileVerdict, gateVerdict}
 use Rattle.model.specs.Bottom.{MemoryFirst, BottomNext, RunKeepsBottom, GateKeepsBottom, LevelStores, never, storesBelow, neverStoresBelow, clockStoresBelow, noClockStoresBelow, level, RunAsLevel, GateAsLevel, NeverAsLevel, NoClockAsLevel, AcceptedAsLevel}
 use Rattle.model.proofs.Cases.{pick, Each, past, _▸_}
 use Rattle.model.proofs.Runs.{one-more}
 use Rattle.model.proofs.Clocks.{accessOver, one-clock}
+use Rattle.model.proofs.Journals.{full-stays, not-full-run}
 use Rattle.model.proofs.Verdicts.{both}
 
 -- ---- 21 directly after 2
 
 pub memory-first : MemoryFirst
 unfolding runVerdict fileVerdict gateVerdict
-memory-first memory board why e = record { run = λ position. rw e; file = λ journal n. rw e; gate = λ resets s. rw e }
+memory-first memory board why e = record { run = λ position. rw e; file = rw e; gate = λ resets s. rw e }
 
 pub bottom-next : BottomNext
 unfolding runVerdict fileVerdict gateVerdict
 bottom-next memory board e h =
     let high = lt-leb (board .bottom) (length memory) h in
-    record { run = λ position. rw (e, high); file = λ journal n. rw (e, high); gate = λ resets s. rw (e, high) }
+    record { run = λ position. rw (e, high); file = rw (e, high); gate = λ resets s. rw (e, high) }
 
 -- ---- the bottom is kept
 
@@ -166,16 +167,34 @@ module _ (board : Board) where
     unfolding storedBy
     stored-level h = rw (leb·zero (I.addressB memory m), same-pair (I.goesOn (r .ending) && I.nextRuns memory m) (I.storesToMemory memory m) (alterable (board .bottom) (I.addressB memory m)) h)
 
+both-level : (board : Board) (room : ℕ) (k : Noted) → storesBelow (board .bottom) (k .run) ≡ false → runOne board room k ≡ runOne (level board) room k
+unfolding runOne
+both-level board room k h = ap₂ (λ (x : List Pair) (y : I.Run). within room k x y) (stored-level board (k .run) h) (advance-level board (k .run) h)
+
+-- one more with a journal: where it is full nothing changes, else the run is the interpreter's
+next-level : (board : Board) (room n : ℕ) (r : I.Run) (pairs : List Pair) → storesBelow (board .bottom) (I.interpret board n r) ≡ false
+    → let k = runNoted board room n (fresh r pairs) in runOne board room k ≡ runOne (level board) room k
+next-level board room n r pairs now = go (runNoted board room n (fresh r pairs) .full) refl
+  where
+    go : (f : Bool) → runNoted board room n (fresh r pairs) .full ≡ f
+        → let k = runNoted board room n (fresh r pairs) in runOne board room k ≡ runOne (level board) room k
+    go true e = full-stays board room (runNoted board room n (fresh r pairs)) e ∙ sym (full-stays (level board) room (runNoted board room n (fresh r pairs)) e)
+    go false e =
+        let k = runNoted board room n (fresh r pairs) in
+        let same = not-full-run board room n r pairs e in
+        let here : storesBelow (board .bottom) (k .run) ≡ false = ap (storesBelow (board .bottom)) same ∙ now in
+        both-level board room k here
+
 pub run-as-level : RunAsLevel
-unfolding I.interpret journalPairs never
-run-as-level board zero r h = record { run = refl; pairs = refl }
+unfolding I.interpret runNoted never
+run-as-level board zero r h = record { run = refl; journal = λ room pairs. refl }
 run-as-level board (suc n) r h =
     let last = I.interpret board n r in
     let (never, now) = never-now (neverStoresBelow (board .bottom) board n r) (storesBelow (board .bottom) last) h in
     let before = run-as-level board n r never in
     record {
       run = advance-level board last now ∙ ap (I.advance (level board)) (before .run);
-      pairs = ap₂ (λ (x y : List Pair). x ++ y) (before .pairs) (stored-level board last now ∙ ap (storedBy 0) (before .run));
+      journal = λ room pairs. next-level board room n r pairs now ∙ ap (runOne (level board) room) (before .journal room pairs);
     }
 
 pub never-as-level : NeverAsLevel
@@ -260,6 +279,6 @@ unfolding runVerdict fileVerdict gateVerdict
 accepted-as-level memory board =
     record {
       run = λ position. level-fits memory (board .bottom) (waitsFit (board .waits) then startFits (board .waits) position);
-      file = λ journal n. level-fits memory (board .bottom) (journalFits journal n);
+      file = λ e. rw (both (memoryFits memory) (bottomFits memory (board .bottom)) e .0, leb·zero (length memory));
       gate = λ resets s. level-fits memory (board .bottom) (waitsFit (board .waits) then resetsFit resets then stateFits (board .waits) s);
     }

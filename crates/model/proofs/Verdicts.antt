@@ -8,12 +8,12 @@ use lib.Dec.{ltb, leb, leb·zero}
 use lib.ListN.{length}
 use borrow.Author.Tests.{ltb-true, lt-ltb, le-leb, leb-true}
 use Rattle.model.specs.declared.Refusal.{Refusal}
-use Rattle.model.specs.declared.Refusal.the-variants.{NoWords, TooManyWords, LongWaitList, BadGateState, TooManyInstructions, ShortJournal, ShortOutput, CutImage, WrongTag, WrongLength, WrongVersion, BadFlag, BadWordCount, ShortMemory, TrailingBytes, TooManyFiles, FileMisplaced, WordsMismatched, BottomTooHigh, ResetsNotRising}
+use Rattle.model.specs.declared.Refusal.the-variants.{NoWords, TooManyWords, LongWaitList, BadGateState, ShortOutput, CutImage, WrongTag, WrongLength, WrongVersion, BadFlag, BadWordCount, ShortMemory, TrailingBytes, TooManyFiles, FileMisplaced, WordsMismatched, BottomTooHigh, ResetsNotRising}
 use Rattle.model.specs.declared.Verdict.{Verdict}
 use Rattle.model.specs.declared.Verdict.the-variants.{Accepted, Refused}
 use Rattle.model.specs.Waits.{positionFits}
 use Rattle.model.specs.Board.{boardWith}
-use Rattle.model.specs.Refusals.{refusalNumber, verdictNumber, mostWords, mostInstructions, demand, _then_, memoryFits, bottomFits, runVerdict, fileVerdict}
+use Rattle.model.specs.Refusals.{refusalNumber, verdictNumber, mostWords, demand, _then_, memoryFits, bottomFits, runVerdict, fileVerdict}
 
 pub then-assoc : (u v w : Verdict) → ((u then v) then w) ≡ (u then (v then w))
 then-assoc Accepted v w = refl
@@ -44,22 +44,12 @@ pub run-accepted : (memory : List ℕ) → 0 < length memory → length memory �
 unfolding runVerdict positionFits
 run-accepted memory some most = rw (memory-accepted memory some most, leb·zero (length memory))
 
--- the journal of an accepted file run has room for every pair
-pub room-for-all : (memory : List ℕ) (bottom : ℕ) (journal : List ℕ) (count : ℕ) {v : Verdict} → v ≡ Accepted → v ≡ fileVerdict memory bottom journal count → 2 * count ≤ length journal
-unfolding fileVerdict
-room-for-all memory bottom journal count p e =
-    let few = demand (leb count mostInstructions) TooManyInstructions in
-    let room = demand (leb (2 * count) (length journal)) ShortJournal in
-    leb-true (2 * count) (length journal) (demanded (leb (2 * count) (length journal)) ShortJournal (both few room (both (bottomFits memory bottom) (few then room) (both (memoryFits memory) (bottomFits memory bottom then few then room) (sym e ∙ p) .1) .1) .1))
-
 -- a refusal has a number from 1 to 22
 pub numbered : (why : Refusal) → (1 ≤ refusalNumber why) × (refusalNumber why ≤ 22)
 numbered NoWords = (omega arith, omega arith)
 numbered TooManyWords = (omega arith, omega arith)
 numbered LongWaitList = (omega arith, omega arith)
 numbered BadGateState = (omega arith, omega arith)
-numbered TooManyInstructions = (omega arith, omega arith)
-numbered ShortJournal = (omega arith, omega arith)
 numbered ShortOutput = (omega arith, omega arith)
 numbered CutImage = (omega arith, omega arith)
 numbered WrongTag = (omega arith, omega arith)

@@ -15,17 +15,17 @@ use Rattle.model.specs.Words.{present, storeWord, alterable, storeAbove}
 use Rattle.model.specs.Board.{Board, boardWith}
 use Rattle.model.specs.Resets.{isReset}
 use Rattle.model.specs.Interpreter.{goesOn, addressB, nextRuns, storesToMemory, Run, interpret}
-use Rattle.model.specs.Journal.{journalPairs}
+use Rattle.model.specs.Journal.{Pair, fresh, runNoted}
 use Rattle.model.specs.GateMachine.{Gate, remaining, gateRun}
 use Rattle.model.specs.Refusals.{memoryFits, runVerdict, fileVerdict, gateVerdict}
 
 -- ---- 21 directly after 2
 
 -- a run, a file run, with whose reasons those of a traverse begin (CR 1), and a gate run under the board are judged so, whatever position,
--- resets, state, journal and count
+-- resets and state
 pub record Judged (memory : List ℕ) (board : Board) (v : Verdict) : Type 0 where
   pub run : (position : ℕ) → runVerdict memory board position ≡ v
-  pub file : (journal : List ℕ) (n : ℕ) → fileVerdict memory (board .bottom) journal n ≡ v
+  pub file : fileVerdict memory (board .bottom) ≡ v
   pub gate : (resets : List ℕ) (s : GateState) → gateVerdict memory board resets s ≡ v
 
 abbrev pub MemoryFirst : Type 0
@@ -85,10 +85,10 @@ LevelStores = (memory : List ℕ) (address word : ℕ) → storeAbove 0 memory a
 abbrev pub level : Board → Board
 level board = boardWith 0 (board .waits)
 
--- run and file run: the same machine, memory, position, counts and ending, and the same journal
+-- run and file run: the same machine, memory, position, counts and ending, and the same journal, whatever its room and its pairs (CR 11)
 pub record SameRun (board : Board) (n : ℕ) (r : Run) : Type 0 where
   pub run : interpret board n r ≡ interpret (level board) n r
-  pub pairs : journalPairs board n r ≡ journalPairs (level board) n r
+  pub journal : (room : ℕ) (pairs : List Pair) → runNoted board room n (fresh r pairs) ≡ runNoted (level board) room n (fresh r pairs)
 
 abbrev pub RunAsLevel : Type 0
 RunAsLevel = (board : Board) (n : ℕ) (r : Run) → neverStoresBelow (board .bottom) board n r ≡ true → SameRun board n r
@@ -112,8 +112,7 @@ NoClockAsLevel =
 -- what is not turned down with a bottom is not turned down with the bottom at 0
 pub record LevelAccepted (memory : List ℕ) (board : Board) : Type 0 where
   pub run : (position : ℕ) → runVerdict memory board position ≡ Accepted → runVerdict memory (level board) position ≡ Accepted
-  pub file : (journal : List ℕ) (n : ℕ) → fileVerdict memory (board .bottom) journal n ≡ Accepted
-      → fileVerdict memory 0 journal n ≡ Accepted
+  pub file : fileVerdict memory (board .bottom) ≡ Accepted → fileVerdict memory 0 ≡ Accepted
   pub gate : (resets : List ℕ) (s : GateState) → gateVerdict memory board resets s ≡ Accepted
       → gateVerdict memory (level board) resets s ≡ Accepted
 

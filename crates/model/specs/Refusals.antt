@@ -1,13 +1,13 @@
 -- Why a call is turned down: the reasons' numbers, what a call leaves, the limits, and the first reason that applies to each run. Document
--- 01, "Why a call is turned down"; CR 1, CR 3, CR 5, CR 6 and CR 7.
-use Prim.Native.Nat.{ℕ, _*_}
+-- 01, "Why a call is turned down"; CR 1, CR 3, CR 5, CR 6, CR 7 and CR 11.
+use Prim.Native.Nat.{ℕ}
 use mathlib.Core.Bool.{Bool, true, false, cond, _&&_}
 use mathlib.Core.List.{List}
 use lib.Dec.{eqb, ltb, leb}
 use lib.ListN.{length}
 use Rattle.model.specs.declared.GateState.{GateState}
 use Rattle.model.specs.declared.Refusal.{Refusal}
-use Rattle.model.specs.declared.Refusal.the-variants.{NoWords, TooManyWords, LongWaitList, BadGateState, TooManyInstructions, ShortJournal, ShortOutput, CutImage, WrongTag, WrongLength, WrongVersion, BadFlag, BadWordCount, ShortMemory, TrailingBytes, TooManyFiles, FileMisplaced, WordsMismatched, BottomTooHigh, ResetsNotRising}
+use Rattle.model.specs.declared.Refusal.the-variants.{NoWords, TooManyWords, LongWaitList, BadGateState, ShortOutput, CutImage, WrongTag, WrongLength, WrongVersion, BadFlag, BadWordCount, ShortMemory, TrailingBytes, TooManyFiles, FileMisplaced, WordsMismatched, BottomTooHigh, ResetsNotRising}
 use Rattle.model.specs.declared.Verdict.{Verdict}
 use Rattle.model.specs.declared.Verdict.the-variants.{Accepted, Refused}
 use Rattle.model.specs.Waits.{positionFits}
@@ -20,8 +20,6 @@ refusalNumber NoWords = 1
 refusalNumber TooManyWords = 2
 refusalNumber LongWaitList = 3
 refusalNumber BadGateState = 4
-refusalNumber TooManyInstructions = 5
-refusalNumber ShortJournal = 6
 refusalNumber ShortOutput = 7
 refusalNumber CutImage = 8
 refusalNumber WrongTag = 9
@@ -52,9 +50,6 @@ mostWords = 16_777_216
 
 abbrev pub mostWaits : ℕ
 mostWaits = 65_536
-
-abbrev pub mostInstructions : ℕ
-mostInstructions = 65_536
 
 -- refused unless something holds; of two verdicts the first refusal
 abbrev pub demand : Bool → Refusal → Verdict
@@ -94,19 +89,15 @@ accessFormed s = cond (s .begun) (isAccess (s .row) && ltb 0 (s .left)) (eqb (s 
 abbrev pub stateFits : (waits : List ℕ) → GateState → Verdict
 stateFits waits s = demand (leb (s .row) 12 && positionFits waits (s .position) && accessFormed s) BadGateState
 
--- 5 and 6, of a file run of n instructions, or a traverse of n words and instructions (CR 1)
-abbrev pub journalFits : List ℕ → ℕ → Verdict
-journalFits journal n =
-    demand (leb n mostInstructions) TooManyInstructions then demand (leb (2 * n) (length journal)) ShortJournal
-
 -- ---- the first reason to turn down a run, a file run, a gate run
 
 unfoldable pub runVerdict : (memory : List ℕ) → Board → (position : ℕ) → Verdict
 runVerdict memory board position =
     memoryFits memory then bottomFits memory (board .bottom) then waitsFit (board .waits) then startFits (board .waits) position
 
-unfoldable pub fileVerdict : (memory : List ℕ) → (bottom : ℕ) → (journal : List ℕ) → ℕ → Verdict
-fileVerdict memory bottom journal n = memoryFits memory then bottomFits memory bottom then journalFits journal n
+-- CR 11: 5 and 6 are given no longer
+unfoldable pub fileVerdict : (memory : List ℕ) → (bottom : ℕ) → Verdict
+fileVerdict memory bottom = memoryFits memory then bottomFits memory bottom
 
 unfoldable pub gateVerdict : (memory : List ℕ) → Board → (resets : List ℕ) → GateState → Verdict
 gateVerdict memory board resets s =

@@ -16,8 +16,6 @@ pub fn refusal_number(why: Refusal) -> u32
         Refusal::TooManyWords => 2,
         Refusal::LongWaitList => 3,
         Refusal::BadGateState => 4,
-        Refusal::TooManyInstructions => 5,
-        Refusal::ShortJournal => 6,
         Refusal::ShortOutput => 7,
         Refusal::CutImage => 8,
         Refusal::WrongTag => 9,

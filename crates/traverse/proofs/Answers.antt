@@ -1,50 +1,50 @@
 -- The call: refused, taken back, carried out.
-use Prim.Native.Nat.{ℕ, _+_, _-_, _≤_, _<_}
+use Prim.Native.Nat.{ℕ, _+_, _-_, _^_, _≤_, _<_}
 use mathlib.Core.Path.{_≡_, refl, sym, ap, _∙_}
 use mathlib.Core.Bool.{Bool, true, false, not, cond, _&&_, and-eq-true-iff}
-use mathlib.Core.List.{List, _++_, append-assoc}
+use mathlib.Core.List.{List, []}
 use native.Mathlib.Omega.{arith}
 use lib.Dec.{eqb}
-use lib.ListN.{length, drop}
-use lib.Seq.{sets}
+use lib.ListN.{length}
 use borrow.Author.Tests.{eqb-false, not-true}
 use Rattle.model.specs.declared.Machine.{Machine}
 use Rattle.model.specs.declared.Refusal.{Refusal}
 use Rattle.model.specs.declared.Verdict.{Verdict}
 use Rattle.model.specs.declared.Verdict.the-variants.{Accepted, Refused}
-use Rattle.model.specs.Words.{overlay}
-use Rattle.model.specs.Journal.{journalWords}
+use Rattle.model.specs.Journal.{Noted, completes}
 use Rattle.model.specs.Refusals.{verdictNumber, leftBy}
-use Rattle.model.proofs.Stores.{overlaid}
-use Rattle.model.proofs.Runs.{words-length, words-append}
-use Rattle.journal.specs.Undo.{undone}
-use Rattle.journal.proofs.Journals.{undone-restores}
+use Rattle.journal.specs.Undo.{restored}
 use Rattle.traverses.specs.declared.TraverseAnswer.{TraverseAnswer}
-use Rattle.traverses.specs.declared.TraverseAnswer.the-variants.{Marked, Finished, Undone}
+use Rattle.traverses.specs.declared.TraverseAnswer.the-variants.{Marked, Finished}
 use Rattle.traverses.specs.declared.TraverseResult.{TraverseResult}
 use Rattle.traverses.specs.Files.{filesIn, parts}
-use Rattle.traverses.specs.Traverse.{finishes, Progress, setOut, oneFile, takenBack, traversed}
-use Rattle.traverses.specs.Calls.{traverseVerdict, traverseAnswer, traverseResult, traverseNumber, wholeTraverse, traverseReturned, traverseWords, traversePlaces, Traverses}
+use Rattle.traverses.specs.Traverse.{Progress, pairsBefore, takenBack, oneFile, traversed}
+use Rattle.traverses.specs.Calls.{traverseVerdict, stoppedBy, traverseAnswer, traverseResult, traverseNumber, wholeTraverse, traverseReturned, traverseWords, traversePlaces, Traverses}
 use Rattle.traverses.proofs.Reasons.{Bounds, bounded}
-use Rattle.traverses.proofs.Pairs.{pairs-few}
 use Rattle.file_list.proofs.Lists.{none-left}
 use Rattle.traverse.specs.declared.walk.Walk.{Walk}
 use Rattle.traverse.specs.Steps.{Goes}
-use Rattle.traverse.proofs.Turns.{At, here, t, u, pairs, goes-on, words-are, ran-is, counted-is, places-are, taken-is}
+use Rattle.traverse.proofs.Turns.{At, t, u, n, goes-on, words-left, ran-is, full-is, counted-is, places-are, taken-is}
 
-answer-number : (version : ℕ) (p : Progress) (x y : Bool) → eqb version 1 ≡ x → eqb (p .undone) 0 ≡ y → traverseNumber (traverseAnswer version p) ≡ 0
-answer-number version p true y e f = rw e
-answer-number version p false true e f = rw (e, f)
-answer-number version p false false e f = rw (e, f)
+answer-number : (version : ℕ) (p : Progress) (x y z : Bool) → eqb version 1 ≡ x → eqb (p .undone) 0 ≡ y → p .full ≡ z → traverseNumber (traverseAnswer version p) ≡ 0
+answer-number version p true y z e f g = rw e
+answer-number version p false true z e f g = rw (e, f)
+answer-number version p false false true e f g = rw (e, f, g)
+answer-number version p false false false e f g = rw (e, f, g)
+
+-- the answer of a progress that rule 2 has taken back, at its last file
+answer-two : (version : ℕ) (p : Progress) (i : ℕ) → eqb version 1 ≡ false → eqb (p .undone) 0 ≡ false → p .files - 1 ≡ i
+    → stoppedBy (p .full) i ≡ traverseAnswer version p
+answer-two version p i x y z = rw (x, y, z)
 
 module _ (memory : List ℕ) (bottom : ℕ) (journal load files : List ℕ) (start : Machine) (version : ℕ) where
   abbrev whole : Progress
   whole = wholeTraverse memory bottom journal load files start version
 
-  as-traverse : (v : Verdict) → v ≡ traverseVerdict memory bottom journal load (filesIn files) version → {r : TraverseResult} {memory′ journal′ : List ℕ}
+  as-traverse : (v : Verdict) → v ≡ traverseVerdict memory bottom load (filesIn files) version → {r : TraverseResult} {memory′ journal′ : List ℕ}
       → r ≡ traverseResult v version start whole
       → memory′ ≡ leftBy v (cond (takenBack version whole) memory (whole .memory)) memory
-      → journal′ ≡ leftBy v (overlay (journalWords (whole .pairs)) journal) journal
+      → journal′ ≡ leftBy v (whole .places) journal
       → traverseNumber (traverseResult v version start whole .answer) ≡ verdictNumber v
       → Traverses memory bottom journal load files start version memory′ journal′ r
   unfolding traverseReturned traverseWords traversePlaces
@@ -52,36 +52,30 @@ module _ (memory : List ℕ) (bottom : ℕ) (journal load files : List ℕ) (sta
       record {
         result = p ∙ ap (λ (v : Verdict). traverseResult v version start whole) e;
         words = q ∙ ap (λ (v : Verdict). leftBy v (cond (takenBack version whole) memory (whole .memory)) memory) e;
-        places = j ∙ ap (λ (v : Verdict). leftBy v (overlay (journalWords (whole .pairs)) journal) journal) e;
+        places = j ∙ ap (λ (v : Verdict). leftBy v (whole .places) journal) e;
         number = ap (λ (r : TraverseResult). traverseNumber (r .answer)) p ∙ n ∙ ap verdictNumber e;
       }
 
 pub refused : {memory : List ℕ} {bottom : ℕ} {journal load files : List ℕ} {start : Machine} {version : ℕ} {v : Verdict}
-    → v ≡ traverseVerdict memory bottom journal load (filesIn files) version → {why : Refusal} → v ≡ Refused why
+    → v ≡ traverseVerdict memory bottom load (filesIn files) version → {why : Refusal} → v ≡ Refused why
     → Traverses memory bottom journal load files start version memory journal (record { answer = TraverseAnswer.Refused why; machine = start; ran = 0; pairs = 0 })
 refused {memory} {bottom} {journal} {load} {files} {start} {version} e {why} p =
     as-traverse memory bottom journal load files start version (Refused why) (sym p ∙ e) refl refl refl refl
 
-module _ (memory : List ℕ) (bottom : ℕ) (journal load files : List ℕ) (start : Machine) (version : ℕ) (v : traverseVerdict memory bottom journal load (filesIn files) version ≡ Accepted) where
+module _ (memory : List ℕ) (bottom : ℕ) (journal load files : List ℕ) (start : Machine) (version : ℕ) (v : traverseVerdict memory bottom load (filesIn files) version ≡ Accepted) where
   abbrev all : Progress
   all = wholeTraverse memory bottom journal load files start version
 
-  -- the journal has room for every pair
-  fits : length (journalWords (all .pairs)) ≤ length journal
-  fits =
-      let b = bounded memory bottom journal load (filesIn files) version v in
-      omega (arith, words-length (all .pairs), pairs-few bottom version (filesIn files) load (setOut start memory), b .room)
-
   carried : {r : TraverseResult} {memory′ journal′ : List ℕ}
       → r ≡ traverseResult Accepted version start all → memory′ ≡ cond (takenBack version all) memory (all .memory)
-      → journal′ ≡ sets journal 0 (journalWords (all .pairs)) → Traverses memory bottom journal load files start version memory′ journal′ r
+      → journal′ ≡ all .places → Traverses memory bottom journal load files start version memory′ journal′ r
   carried p q j =
-      as-traverse memory bottom journal load files start version Accepted (sym v) p q (j ∙ overlaid journal (journalWords (all .pairs)) fits)
-      (answer-number version all (eqb version 1) (eqb (all .undone) 0) refl refl)
+      as-traverse memory bottom journal load files start version Accepted (sym v) p q j
+      (answer-number version all (eqb version 1) (eqb (all .undone) 0) (all .full) refl refl refl)
 
   -- ---- after the last file
 
-  module _ {memory′ journal′ : List ℕ} {w : Walk} {i : ℕ} (a : At memory bottom journal load files start version memory′ journal′ w i) (past : length (filesIn files) ≤ i) where
+  module _ {memory′ journal′ map : List ℕ} {w : Walk} {i : ℕ} (a : At memory bottom journal load files start version memory′ journal′ map w i) (past : length (filesIn files) ≤ i) where
     is-all : a .so-far ≡ all
     unfolding traversed parts
     is-all = rw (none-left (filesIn files) i past) at (a .rest)
@@ -109,21 +103,24 @@ module _ (memory : List ℕ) (bottom : ℕ) (journal load files : List ℕ) (sta
           pairs = (a .counted ∙ ap (λ (p : Progress). length (p .pairs)) is-all) k;
         }))
         (rw s (a .words ∙ ap (λ (p : Progress). p .memory) is-all))
-        (a .places ∙ ap (λ (p : Progress). sets journal 0 (journalWords (p .pairs))) is-all)
+        (a .places ∙ ap (λ (p : Progress). p .places) is-all)
 
   -- ---- after a file that takes the traverse back
 
-  module _ {m j : List ℕ} {w : Walk} {i : ℕ} (a : At memory bottom journal load files start version m j w i) (less : i < length (filesIn files))
-      {memory′ journal′ : List ℕ} {r : Walk} (h : Goes m bottom j load files i w memory′ journal′ r)
+  module _ {m j map : List ℕ} {w : Walk} {i : ℕ} (a : At memory bottom journal load files start version m j map w i) (less : i < length (filesIn files))
+      {memory′ journal′ map′ : List ℕ} {r : Walk} (h : Goes m bottom j map load files version i w memory′ journal′ map′ r)
       (e : (not (eqb version 1) && not (eqb (r .undone) 0)) ≡ true) where
-    abbrev b : Bounds memory bottom journal load (filesIn files)
-    b = bounded memory bottom journal load (filesIn files) version v
+    abbrev b : Bounds memory bottom load (filesIn files)
+    b = bounded memory bottom load (filesIn files) version v
 
     abbrev before : Progress
     before = t b a less h
 
     abbrev after : Progress
     after = u b a less h
+
+    abbrev noted : Noted
+    noted = n b a less h
 
     is-last : after ≡ all
     is-last = rw (taken-is b a less h e) at (goes-on b a less h)
@@ -133,32 +130,27 @@ module _ (memory : List ℕ) (bottom : ℕ) (journal load files : List ℕ) (sta
         let (x, y) = and-eq-true-iff _ _ .0 (taken-is b a less h e) in
         (not-true _ x, not-true _ y)
 
-    -- the file went back itself
-    went-back : (done : Bool) → finishes bottom (before .machine) (before .memory) (here b a less h) ≡ done → after .memory ≡ before .memory
+    -- the file did not finish
+    undone-now : (done : Bool) → completes noted ≡ done → completes noted ≡ false
     unfolding oneFile
-    went-back true d = absurd (eqb-false (after .undone) 0 (two .1) (rw d (a .none (two .0))))
-    went-back false d = rw d
+    undone-now true d = absurd (eqb-false (after .undone) 0 (two .1) (ap (λ (x : Bool). cond x (before .undone) (before .undone + 2 ^ before .files)) d ∙ a .none (two .0)))
+    undone-now false d = d
 
-    restores : undone (w .pairs) journal′ memory′ ≡ memory
-    unfolding oneFile
+    -- so all that the one journal holds was taken back
+    restores : memory′ ≡ memory
     restores =
-        let ps = before .pairs in
-        let qs = pairs b a less h in
-        let W = journalWords (after .pairs) in
-        let short : length W ≤ length journal = rw (sym is-last) at fits in
-        let laid-over : journal′ ≡ journalWords ps ++ (journalWords qs ++ drop (length W) journal) =
-        places-are b a less h ∙ overlaid journal W short
-        ∙ ap (λ (l : List ℕ). l ++ drop (length W) journal) (words-append ps qs) ∙ append-assoc (journalWords ps) (journalWords qs) _ in
-        let there : memory′ ≡ before .memory = words-are b a less h ∙ went-back _ refl in
-        rw (a .counted, laid-over, there) (undone-restores ps (journalWords qs ++ drop (length W) journal) (before .memory)) ∙ a .restores
+        words-left b a less h
+        ∙ ap (λ (x : Bool). cond x (noted .run .memory) (restored (pairsBefore version before) (before .memory))) (undone-now (completes noted) refl)
+        ∙ ap (λ (x : Bool). restored (cond x [] (before .pairs)) (before .memory)) (two .0) ∙ a .restores (two .0)
 
-    pub taken : {memory″ : List ℕ} → memory″ ≡ undone (w .pairs) journal′ memory′
-        → Traverses memory bottom journal load files start version memory″ journal′ (record { answer = Undone i; machine = start; ran = r .ran; pairs = r .pairs })
+    pub taken : {answer : TraverseAnswer} → answer ≡ stoppedBy (r .full) i
+        → Traverses memory bottom journal load files start version memory′ journal′ (record { answer = answer; machine = start; ran = r .ran; pairs = r .pairs })
     unfolding oneFile
-    taken d =
+    taken {answer} q =
         let s : takenBack version all ≡ true = ap (takenBack version) (sym is-last) ∙ taken-is b a less h e in
         let n : before .files + 1 - 1 ≡ i = omega (arith, a .number) in
-        let answered : Undone i ≡ traverseAnswer version after = rw (two .0, two .1, n) in
+        let answered : answer ≡ traverseAnswer version after =
+        q ∙ ap (λ (x : Bool). stoppedBy x i) (full-is b a less h) ∙ answer-two version after i (two .0) (two .1) n in
         carried
         (rw s
         (λ k.
@@ -168,5 +160,5 @@ module _ (memory : List ℕ) (bottom : ℕ) (journal load files : List ℕ) (sta
           ran = (ran-is b a less h ∙ ap (λ (p : Progress). p .ran) is-last) k;
           pairs = (counted-is b a less h ∙ ap (λ (p : Progress). length (p .pairs)) is-last) k;
         }))
-        (rw s (d ∙ restores))
-        (places-are b a less h ∙ ap (λ (p : Progress). sets journal 0 (journalWords (p .pairs))) is-last)
+        (rw s restores)
+        (places-are b a less h ∙ ap (λ (p : Progress). p .places) is-last)

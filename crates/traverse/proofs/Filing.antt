@@ -1,104 +1,86 @@
--- One file: what laying, the loop of the engine and taking back leave together.
-use Prim.Native.Nat.{ℕ, _+_, _-_, _*_, _≤_}
-use mathlib.Core.Path.{_≡_, sym, ap, ap₂, subst, _∙_}
-use mathlib.Core.Bool.{Bool, true, false}
+-- One file: its end, and the whole of it, from its words laid and from its run.
+use Prim.Native.Nat.{ℕ, _≤_, min}
+use mathlib.Core.Path.{_≡_, refl, sym, ap, ap₂, _∙_}
+use mathlib.Core.Bool.{Bool, true, false, not, cond, _&&_}
 use mathlib.Core.List.{List, []}
 use native.Mathlib.Omega.{arith}
-use lib.ListN.{length, set, length-append}
-use lib.Seq.{sets, length-sets}
-use borrow.Rule.Slice.PartMut.{midOf, putMid}
+use lib.ListN.{length, set}
 use Rattle.model.specs.declared.Machine.{Machine}
 use Rattle.model.specs.Interpreter.{machineWith, goesOn, begin}
-use Rattle.model.specs.Journal.{Pair, journalPairs, journalWords}
-use Rattle.model.proofs.Stores.{sets-append, overlaid}
-use Rattle.model.proofs.Runs.{pairs-le, words-length, words-append}
+use Rattle.model.specs.Journal.{roomIn}
 use Rattle.model.proofs.Waits.{first-fits}
+use Rattle.marks.specs.declared.Noting.{Noting}
 use Rattle.engine.specs.declared.Ended.{Ended}
 use Rattle.engine.specs.Clocks.{beginsAt}
+use Rattle.engine.specs.Keeping.{Kept, keptAt, keepRun}
 use Rattle.engine.specs.Engine.{endedOf, EngineEnds}
 use Rattle.engine.proofs.Spending.{begins-there}
+use Rattle.engine.proofs.Noting.{full-run}
 use Rattle.journal.specs.Undo.{undone}
-use Rattle.journal.proofs.Journals.{undone-restores}
 use Rattle.interpreter.specs.Calls.{fileBoard}
 use Rattle.traverses.specs.declared.File.{File}
 use Rattle.traverses.specs.Files.{Part}
-use Rattle.traverses.specs.Traverse.{laidPairs, partStart, partRun, partPairs, finishes}
-use Rattle.traverses.proofs.Pairs.{pairs-restore, laid-length, part-few}
-use Rattle.traverse.specs.Steps.{Lays, FileEnds}
-use Rattle.traverse.proofs.Parts.{part-stored}
+use Rattle.traverses.specs.Traverse.{entered}
+use Rattle.traverse.specs.declared.file.FileEnd.{FileEnd}
+use Rattle.traverse.specs.Steps.{laidAt, layKept, Lays, fileKept, keptDone, endOf, keptWords, Ends, FileEnds}
 
-module _ {memory : List ℕ} (bottom : ℕ) {journal load : List ℕ} (f : File) (m : Machine) (room : 2 * (length load + f .count) ≤ length journal)
-    {memory₁ journal₁ : List ℕ} (h : Lays memory journal load (f .place) memory₁ journal₁)
-    {start : Machine} (s : start ≡ machineWith (set (m .regs) 0 (f .entry)) (m .flags))
-    {memory₂ part : List ℕ} {d : Ended}
-    (g′ : EngineEnds memory₁ (fileBoard bottom) (beginsAt [] 0) (midOf (2 * length load) (length journal₁ - 2 * length load) journal₁) start (f .count) memory₂ part d) where
-  g : EngineEnds memory₁ (fileBoard bottom) 0 (midOf (2 * length load) (length journal₁ - 2 * length load) journal₁) start (f .count) memory₂ part d
-  g =
-      subst (λ (x : ℕ). EngineEnds memory₁ (fileBoard bottom) x (midOf (2 * length load) (length journal₁ - 2 * length load) journal₁) start (f .count) memory₂ part d)
-      (begins-there [] 0 (first-fits [])) g′
+-- ---- the end of a run
 
+not-full : (f g : Bool) → (not f && g) ≡ true → f ≡ false
+not-full true g q = cc
+not-full false g q = refl
+
+module _ {memory journal : List ℕ} {m : Machine} {e : Ended} {g : Bool} (on : g ≡ goesOn (e .ending)) where
+  pub end-finished : (not (e .full) && g) ≡ true
+      → Ends memory journal m e memory (record { done = true; full = false; machine = e .machine; ran = e .ran; pairs = e .pairs })
+  end-finished q =
+      let t : (not (e .full) && goesOn (e .ending)) ≡ true = ap (λ (x : Bool). not (e .full) && x) (sym on) ∙ q in
+      record { result = rw (not-full (e .full) g q, rw (not-full (e .full) g q) at t); words = rw t }
+
+  pub end-undone : (not (e .full) && g) ≡ false → {memory′ : List ℕ} → memory′ ≡ undone (min (e .pairs) (roomIn journal)) journal memory
+      → Ends memory journal m e memory′ (record { done = false; full = e .full; machine = m; ran = e .ran; pairs = e .pairs })
+  end-undone q u =
+      let t : (not (e .full) && goesOn (e .ending)) ≡ false = ap (λ (x : Bool). not (e .full) && x) (sym on) ∙ q in
+      record { result = rw t; words = rw t u }
+
+-- ---- the file
+
+module _ (memory : List ℕ) (bottom : ℕ) (journal map : List ℕ) (pairs : ℕ) (load : List ℕ) (f : File) (m : Machine) {memory′ journal′ map′ : List ℕ} {n : Noting}
+    (h : Lays memory journal map pairs load (f .place) memory′ journal′ map′ n) where
   abbrev p : Part
   p = record { file = f; words = load }
 
-  abbrev first : List Pair
-  first = laidPairs memory (f .place) load
+  abbrev k : Kept
+  k = fileKept memory bottom journal map pairs p m
 
-  abbrev second : List Pair
-  second = journalPairs (fileBoard bottom) (f .count) (partStart m memory p)
+  -- what a file comes to
+  ends : (x : Kept) → k ≡ x → {r : FileEnd} → r ≡ endOf m x → {memory″ journal″ map″ : List ℕ} → memory″ ≡ keptWords x → journal″ ≡ x .places → map″ ≡ x .map
+      → FileEnds memory bottom journal map pairs load f m memory″ journal″ map″ r
+  ends x q a b c d = record { result = rw q a; words = rw q b; places = rw q c; marks = rw q d }
 
-  from-start : begin start memory₁ 0 ≡ partStart m memory p
-  from-start = rw (s, h .words)
+  -- its words do not all fit
+  pub file-full : n .full ≡ true → {memory″ : List ℕ} → memory″ ≡ undone (min (n .pairs) (roomIn journal′)) journal′ memory′
+      → FileEnds memory bottom journal map pairs load f m memory″ journal′ map′ (record { done = false; full = true; machine = m; ran = 0; pairs = n .pairs })
+  file-full e u =
+      let x : Kept = laidAt (entered m p) memory′ journal′ map′ (n .pairs) true in
+      let laid : layKept (laidAt (entered m p) memory journal map pairs false) (f .place) load ≡ x =
+      h (entered m p) ∙ ap (laidAt (entered m p) memory′ journal′ map′ (n .pairs)) e in
+      ends x (ap (keepRun (fileBoard bottom) (f .count)) laid ∙ full-run (fileBoard bottom) (f .count) x refl) refl u refl refl
 
-  ended : d ≡ endedOf (partRun bottom m memory p) (length second)
-  unfolding partRun
-  ended = rw from-start at (g .result)
+  machine-by : (x g : Bool) (start last : Machine) → cond (not x && g) (cond x start last) m ≡ cond (not x && g) last m
+  machine-by true g start last = refl
+  machine-by false g start last = refl
 
-  ran : memory₂ ≡ partRun bottom m memory p .memory
-  unfolding partRun
-  ran = rw from-start at (g .words)
-
-  counted : length load + d .pairs ≡ length (partPairs bottom m memory p)
-  unfolding partPairs
-  counted =
-      rw length-append (omega (arith, ap (λ (x : Ended). x .pairs) ended, laid-length memory (f .place) load))
-
-  pub pairs-few : length load + d .pairs ≤ length load + f .count
-  pairs-few = omega (arith, counted, part-few bottom m memory p)
-
-  abbrev places : List ℕ
-  places = putMid (2 * length load) (length journal₁ - 2 * length load) journal₁ part
-
-  noted : places ≡ sets journal 0 (journalWords (partPairs bottom m memory p))
-  unfolding partPairs
-  noted =
-      let W = journalWords second in
-      let long : length journal₁ ≡ length journal = rw (h .places) (length-sets journal 0 (journalWords first)) in
-      let few : length W ≤ length journal₁ - 2 * length load = omega (arith, words-length second, pairs-le (fileBoard bottom) (f .count) (partStart m memory p)) in
-      let at : 2 * length load ≡ 0 + length (journalWords first) = omega (arith, words-length first, laid-length memory (f .place) load) in
-      let told : part ≡ sets (midOf (2 * length load) (length journal₁ - 2 * length load) journal₁) 0 W = rw from-start at (g .places) in
-      ap (putMid (2 * length load) (length journal₁ - 2 * length load) journal₁) told
-      ∙ part-stored (2 * length load) (length journal₁ - 2 * length load) journal₁ W (omega arith) few
-      ∙ ap₂ (λ (l : List ℕ) (i : ℕ). sets l i W) (h .places) at
-      ∙ sets-append journal 0 (journalWords first) W
-      ∙ ap (sets journal 0) (sym (words-append first second))
-
-  module _ {told x : Bool} (q : told ≡ goesOn (d .ending)) (k : told ≡ x) where
-    finishes-is : finishes bottom m memory p ≡ x
-    finishes-is = sym (q ∙ ap (λ (y : Ended). goesOn (y .ending)) ended) ∙ k
-
-  pub file-finished : {told : Bool} → told ≡ goesOn (d .ending) → told ≡ true
-      → FileEnds memory bottom journal load f m memory₂ places (record { done = true; machine = d .machine; ran = d .ran; pairs = length load + d .pairs })
-  file-finished q k =
-      let e = finishes-is q k in
-      record { result = rw (e, sym counted, ended); words = ran ∙ rw e; places = noted }
-
-  pub file-undone : {told : Bool} → told ≡ goesOn (d .ending) → told ≡ false → {memory₃ : List ℕ} → memory₃ ≡ undone (length load + d .pairs) places memory₂
-      → FileEnds memory bottom journal load f m memory₃ places (record { done = false; machine = m; ran = d .ran; pairs = length load + d .pairs })
-  file-undone q k u =
-      let e = finishes-is q k in
-      let pairs = partPairs bottom m memory p in
-      let fits : length (journalWords pairs) ≤ length journal = omega (arith, words-length pairs, part-few bottom m memory p) in
-      let back : undone (length pairs) (sets journal 0 (journalWords pairs)) (partRun bottom m memory p .memory) ≡ memory =
-      ap (λ (l : List ℕ). undone (length pairs) l (partRun bottom m memory p .memory)) (overlaid journal (journalWords pairs) fits)
-      ∙ undone-restores pairs _ _ ∙ pairs-restore bottom m memory p in
-      record { result = rw (e, sym counted, ended); words = u ∙ rw (counted, noted, ran, e) back; places = noted }
+  -- it ran
+  pub file-ran : n .full ≡ false → {start : Machine} → start ≡ entered m p → {memory″ journal″ map″ : List ℕ} {e : Ended}
+      → EngineEnds memory′ (fileBoard bottom) (beginsAt [] 0) journal′ map′ (n .pairs) start (f .count) memory″ journal″ map″ e
+      → {memory‴ : List ℕ} {r : FileEnd} → Ends memory″ journal″ m e memory‴ r
+      → FileEnds memory bottom journal map pairs load f m memory‴ journal″ map″ r
+  file-ran e {start} is g c =
+      let x : Kept = keepRun (fileBoard bottom) (f .count) (keptAt (begin start memory′ (beginsAt [] 0)) journal′ map′ (n .pairs)) in
+      let laid : layKept (laidAt (entered m p) memory journal map pairs false) (f .place) load ≡ keptAt (begin start memory′ (beginsAt [] 0)) journal′ map′ (n .pairs) =
+      h (entered m p) ∙ ap (laidAt (entered m p) memory′ journal′ map′ (n .pairs)) e
+      ∙ ap₂ (λ (s : Machine) (i : ℕ). keptAt (begin s memory′ i) journal′ map′ (n .pairs)) (sym is) (sym (begins-there [] 0 (first-fits []))) in
+      ends x (ap (keepRun (fileBoard bottom) (f .count)) laid)
+      (c .result ∙ rw (g .result, machine-by (x .full) (goesOn (x .run .ending)) start (x .run .machine)))
+      (c .words ∙ rw (g .result, g .words, g .places)) (g .places) (g .marks)

@@ -1,7 +1,7 @@
-mod Laying
-mod Parts
-mod Filing
 mod Masks
+mod Laying
+mod Filing
 mod Walking
+mod Following
 mod Turns
 mod Answers

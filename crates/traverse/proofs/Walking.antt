@@ -1,27 +1,19 @@
 -- One file more, from what the file left.
-use Prim.Native.Nat.{ℕ, _+_, _-_, _*_, _^_, _≤_, _<_}
-use mathlib.Core.Path.{_≡_, ap, _∙_}
+use Prim.Native.Nat.{ℕ, _+_, _-_, _^_, _≤_, _<_}
+use mathlib.Core.Path.{_≡_, ap, ap₂, _∙_}
 use mathlib.Core.Bool.{cond}
 use mathlib.Core.List.{List}
 use native.Mathlib.Omega.{arith}
 use lib.ListN.{length, take, drop, length-drop}
-use lib.Seq.{sets, length-take-le}
-use borrow.Rule.Slice.PartMut.{midOf, putMid}
-use Rattle.model.specs.Journal.{Pair, journalWords}
-use Rattle.model.proofs.Runs.{words-length}
+use lib.Seq.{length-take-le}
+use Rattle.engine.specs.Keeping.{Kept}
 use Rattle.traverses.specs.declared.File.{File}
 use Rattle.traverses.specs.Files.{fileAt, Part}
-use Rattle.traverses.specs.Traverse.{partRun, partPairs, oneFile}
-use Rattle.traverses.proofs.Pairs.{part-few}
 use Rattle.traverse.specs.declared.file.FileEnd.{FileEnd}
 use Rattle.traverse.specs.declared.walk.Walk.{Walk}
-use Rattle.traverse.specs.Steps.{endOf, FileFits, FileEnds, partAt, NextFits, Goes}
-use Rattle.traverse.proofs.Parts.{part-stored}
+use Rattle.traverse.specs.Steps.{LaysFit, fileKept, endOf, keptWords, FileEnds, partAt, mapBefore, countBefore, nextKept, NextFits, Goes}
 
-module _ {memory : List ℕ} (journal load files : List ℕ) (i : ℕ) (w : Walk) (fits : NextFits memory journal load files i w) (f : File) (e : f ≡ fileAt files i) where
-  abbrev journalPart : List ℕ
-  journalPart = midOf (2 * w .pairs) (length journal - 2 * w .pairs) journal
-
+module _ (map load files : List ℕ) (i : ℕ) (w : Walk) (fits : NextFits map load files i w) (f : File) (e : f ≡ fileAt files i) where
   abbrev loadPart : List ℕ
   loadPart = take (w .at + f .size - w .at) (drop (w .at) load)
 
@@ -32,65 +24,28 @@ module _ {memory : List ℕ} (journal load files : List ℕ) (i : ℕ) (w : Walk
   load-length =
       rw load-is (length-take-le (f .size) (drop (w .at) load) (omega (arith, fits .laid, length-drop (w .at) load, ap (λ (g : File). g .size) e)))
 
-  journal-length : length journalPart ≡ length journal - 2 * w .pairs
-  journal-length = length-take-le (length journal - 2 * w .pairs) (drop (2 * w .pairs) journal) (omega (arith, length-drop (2 * w .pairs) journal))
-
-  pub file-fits : FileFits memory journalPart loadPart f
-  file-fits =
-      let a = fits .lies in
-      let d = fits .there in
-      let b = fits .few in
-      let c = fits .room in
+  pub file-fits : {map′ : List ℕ} → length map′ ≡ length map → LaysFit map′ loadPart (f .place)
+  file-fits q =
       let x = ap (λ (g : File). g .size) e in
       let y = ap (λ (g : File). g .place) e in
-      let z = ap (λ (g : File). g .count) e in
-      record {
-        lies = omega (arith, load-length);
-        there = omega (arith, load-length);
-        few = omega (arith, load-length);
-        room = omega (arith, load-length, journal-length);
-      }
+      record { lies = omega (arith, load-length, fits .lies); some = omega (arith, fits .some, q) }
 
-  abbrev here : Part
-  here = partAt files load i (w .at)
-
-  same-part : _≡_ {A = Part} (record { file = f; words = loadPart }) here
+  same-part : _≡_ {A = Part} (record { file = f; words = loadPart }) (partAt files load i (w .at))
   same-part = rw (load-is, e)
 
-  module _ {bottom : ℕ} {memory′ part : List ℕ} {r : FileEnd} (h : FileEnds memory bottom journalPart loadPart f (w .machine) memory′ part r) where
-    abbrev noted : List Pair
-    noted = partPairs bottom (w .machine) memory here
-
-    ended : r ≡ endOf (w .machine) (partRun bottom (w .machine) memory here) noted
-    ended = rw same-part at (h .result)
-
-    few : length noted ≤ f .size + f .count
-    few =
-        omega (arith, part-few bottom (w .machine) memory here, ap (λ (q : Part). length (q .words)) same-part, load-length, ap (λ (g : File). g .count) e)
-
-    pub pairs-fit : w .pairs + r .pairs < 2 ^ 32
-    pairs-fit =
-        let x = ap (λ (g : File). g .size) e in
-        let y = ap (λ (g : File). g .count) e in
-        omega (arith, few, ap (λ (x : FileEnd). x .pairs) ended, fits .few)
-
-    pub goes : {u : ℕ} → u ≡ cond (r .done) (w .undone) (w .undone + 2 ^ i)
-        → Goes memory bottom journal load files i w memory′ (putMid (2 * w .pairs) (length journal - 2 * w .pairs) journal part)
-        (record { machine = r .machine; pairs = w .pairs + r .pairs; undone = u; ran = r .ran; at = w .at + f .size })
-    unfolding oneFile
-    goes m =
-        let k = length journal - 2 * w .pairs in
-        let x = ap (λ (g : File). g .size) e in
-        let y = ap (λ (g : File). g .count) e in
-        let told : part ≡ sets journalPart 0 (journalWords noted) = rw same-part at (h .places) in
-        let inside : 2 * w .pairs + k ≤ length journal = omega (arith, fits .room) in
-        let short : length (journalWords noted) ≤ k = omega (arith, words-length noted, few, fits .room) in
-        record {
-          machine = ap (λ (z : FileEnd). z .machine) ended;
-          pairs = ap (λ (z : FileEnd). w .pairs + z .pairs) ended;
-          undone = m ∙ ap (λ (z : FileEnd). cond (z .done) (w .undone) (w .undone + 2 ^ i)) ended;
-          ran = ap (λ (z : FileEnd). z .ran) ended;
-          at = ap (λ (g : File). w .at + g .size) e;
-          words = rw same-part at (h .words);
-          places = ap (putMid (2 * w .pairs) k journal) told ∙ part-stored (2 * w .pairs) k journal (journalWords noted) inside short;
-        }
+  pub goes : (memory : List ℕ) (bottom version : ℕ) (journal : List ℕ) {map₁ : List ℕ} {pairs₁ : ℕ} → map₁ ≡ mapBefore version (length memory) map → pairs₁ ≡ countBefore version (w .pairs)
+      → {memory′ journal′ map′ : List ℕ} {r : FileEnd} → FileEnds memory bottom journal map₁ pairs₁ loadPart f (w .machine) memory′ journal′ map′ r
+      → {u : ℕ} → u ≡ cond (r .done) (w .undone) (w .undone + 2 ^ i)
+      → Goes memory bottom journal map load files version i w memory′ journal′ map′
+      (record { machine = r .machine; pairs = r .pairs; undone = u; ran = r .ran; full = r .full; at = w .at + f .size })
+  goes memory bottom version journal m p h marked =
+      let q : fileKept memory bottom journal _ _ (record { file = f; words = loadPart }) (w .machine) ≡ nextKept memory bottom journal map load files version i w =
+      ap₂ (λ (l : List ℕ) (n : ℕ). fileKept memory bottom journal l n (record { file = f; words = loadPart }) (w .machine)) m p
+      ∙ ap (λ (x : Part). fileKept memory bottom journal (mapBefore version (length memory) map) (countBefore version (w .pairs)) x (w .machine)) same-part in
+      let result = h .result ∙ ap (endOf (w .machine)) q in
+      record {
+        result = rw (marked, result, ap (λ (g : File). g .size) e);
+        words = h .words ∙ ap keptWords q;
+        places = h .places ∙ ap (λ (k : Kept). k .places) q;
+        marks = h .marks ∙ ap (λ (k : Kept). k .map) q;
+      }

@@ -1,5 +1,6 @@
 // One file of a traverse: laid, entered and run, and taken back where it does not finish.
 use super::lay::lay;
+use engine::Ended;
 use engine::engine;
 use journal::undo;
 use model::Machine;
@@ -8,14 +9,16 @@ use traverses::File;
 ghost use mathlib.Core.Path.{_≡_};
 ghost use lib.ListN.{set};
 ghost use Rattle.model.specs.Interpreter.{machineWith};
-ghost use Rattle.traverse.specs.Steps.{FileFits, FileEnds};
+ghost use Rattle.traverse.specs.Steps.{FileEnds, FileFits, Ends};
 
-// What a file leaves beside memory and journal: whether it finished, the machine, the instructions that ran, its pairs.
+// What a file leaves beside memory and journal: whether it finished, whether the journal was full, the machine, the instructions that ran, and the
+// journal's pairs.
 pub struct FileEnd {
     pub done: bool,
+    pub full: bool,
     pub machine: Machine,
     pub ran: u32,
-    pub pairs: u32,
+    pub pairs: usize,
 }
 
 // A machine whose r0 is at an entry.
@@ -28,41 +31,68 @@ fn entered(m: Machine, entry: u32) -> Machine
     Machine { regs, flags }
 }
 
-// One file, its pairs from the journal's front on. Where it stops before its end it is taken back, its words too.
+// A file at its end; where it does not finish, all pairs are taken back.
+fn end(memory: &mut [u32], journal: &[u32], m: Machine, e: Ended) -> FileEnd
+    ensures { λ r. ⌜ Ends (now (memory .entry)) (now (journal .entry)) m e (now (memory .exit)) r ⌝ }
+{
+    let ending = e.ending;
+    if !e.full & goes_on(ending) {
+        let last = e.machine;
+        return FileEnd {
+            done: true,
+            full: false,
+            machine: last,
+            ran: e.ran,
+            pairs: e.pairs,
+        };
+    }
+    undo(memory, journal, e.pairs);
+    FileEnd {
+        done: false,
+        full: e.full,
+        machine: m,
+        ran: e.ran,
+        pairs: e.pairs,
+    }
+}
+
+// One file, after the journal's pairs so far. Where its words do not all fit, nothing runs.
 pub fn one_file(
     memory: &mut [u32],
     bottom: u32,
     journal: &mut [u32],
+    map: &mut [u32],
+    pairs: usize,
     words: &[u32],
     f: File,
     m: Machine,
 ) -> FileEnd
-    requires { ⌜ FileFits (now memory) (now journal) (now words) f ⌝ }
-    ensures { λ r. ⌜ FileEnds (now (memory .entry)) bottom (now (journal .entry)) (now (words .entry)) f m (now (memory .exit)) (now (journal .exit)) r ⌝ }
+    requires { ⌜ FileFits (now map) (now words) f ⌝ }
+    ensures { λ r. ⌜ FileEnds (now (memory .entry)) bottom (now (journal .entry)) (now (map .entry)) pairs (now (words .entry)) f m (now (memory .exit)) (now (journal .exit)) (now (map .exit)) r ⌝ }
 {
-    lay(memory, journal, words, f.place);
-    let first = words.len();
-    let from = 2 * first;
-    let start = entered(m, f.entry);
-    let none: [u16; 0] = [];
-    let n = f.count;
-    let e = engine(memory, bottom, &none, 0, &mut journal[from..], start, n);
-    let pairs = (first as u32) + e.pairs;
-    let ending = e.ending;
-    if goes_on(ending) {
-        let last = e.machine;
+    let n = lay(memory, journal, map, pairs, words, f.place);
+    if n.full {
+        undo(memory, &*journal, n.pairs);
         return FileEnd {
-            done: true,
-            machine: last,
-            ran: e.ran,
-            pairs,
+            done: false,
+            full: true,
+            machine: m,
+            ran: 0,
+            pairs: n.pairs,
         };
     }
-    undo(memory, &*journal, pairs);
-    FileEnd {
-        done: false,
-        machine: m,
-        ran: e.ran,
-        pairs,
-    }
+    let start = entered(m, f.entry);
+    let none: [u16; 0] = [];
+    let e = engine(
+        memory,
+        bottom,
+        &none,
+        0,
+        journal,
+        map,
+        n.pairs,
+        start,
+        f.count,
+    );
+    end(memory, &*journal, m, e)
 }

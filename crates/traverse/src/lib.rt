@@ -5,7 +5,6 @@ mod walk;
 
 use file_list::file_count;
 use file_list::traverse_verdict;
-use journal::undo;
 use model::Machine;
 use model::Verdict;
 use traverses::TraverseAnswer;
@@ -18,7 +17,7 @@ ghost use lib.Dec.{eqb};
 ghost use Rattle.model.specs.declared.Verdict.the-variants.{Accepted};
 ghost use Rattle.traverses.specs.declared.TraverseAnswer.the-variants.{Marked, Finished};
 ghost use Rattle.traverses.specs.Files.{filesIn};
-ghost use Rattle.traverses.specs.Calls.{traverseVerdict, Traverses};
+ghost use Rattle.traverses.specs.Calls.{stoppedBy, traverseVerdict, Traverses};
 
 // What a traverse answers that is not taken back.
 fn ended(version: u32, undone: u64) -> TraverseAnswer
@@ -30,7 +29,18 @@ fn ended(version: u32, undone: u64) -> TraverseAnswer
     TraverseAnswer::Finished
 }
 
-// All files. Under rule 2 the first that is undone takes the traverse back: it has gone back itself, and the pairs before it are taken back.
+// The answer under rule 2 of a traverse that file i takes back.
+fn stopped(full: bool, i: u32) -> TraverseAnswer
+    ensures { λ r. ⌜ r ≡ stoppedBy full i ⌝ }
+{
+    if full {
+        return TraverseAnswer::Full(i);
+    }
+    TraverseAnswer::Undone(i)
+}
+
+// All files. Under rule 2 the first that does not finish takes the traverse back: the journal that was taken back with it holds the pairs of the
+// files before it too.
 fn carry_out(
     memory: &mut [u32],
     bottom: u32,
@@ -40,19 +50,28 @@ fn carry_out(
     start: Machine,
     version: u32,
 ) -> TraverseResult
-    requires { ⌜ traverseVerdict (now memory) bottom (now journal) (now words) (filesIn (now files)) version ≡ Accepted ⌝ }
+    requires { ⌜ traverseVerdict (now memory) bottom (now words) (filesIn (now files)) version ≡ Accepted ⌝ }
     ensures { λ r. ⌜ Traverses (now (memory .entry)) bottom (now (journal .entry)) (now (words .entry)) (now (files .entry)) start version (now (memory .exit)) (now (journal .exit)) r ⌝ }
 {
+    let mut map: [u32; 49_184] = [0; 49_184];
     let n = file_count(files);
     let mut w = set_out(start);
     let mut i: usize = 0;
     while i < n {
-        let before = w.pairs;
-        w = next(memory, bottom, journal, words, files, i, w);
+        w = next(
+            memory,
+            bottom,
+            journal,
+            &mut map,
+            words,
+            files,
+            version,
+            i,
+            w,
+        );
         if (version != 1) & (w.undone != 0) {
-            undo(memory, &*journal, before);
             return TraverseResult {
-                answer: TraverseAnswer::Undone(i as u32),
+                answer: stopped(w.full, i as u32),
                 machine: start,
                 ran: w.ran,
                 pairs: w.pairs,
@@ -82,7 +101,7 @@ pub fn traverse(
 ) -> TraverseResult
     ensures { λ r. ⌜ Traverses (now (memory .entry)) bottom (now (journal .entry)) (now (words .entry)) (now (files .entry)) start version (now (memory .exit)) (now (journal .exit)) r ⌝ }
 {
-    match traverse_verdict(&*memory, bottom, &*journal, words, files, version) {
+    match traverse_verdict(&*memory, bottom, words, files, version) {
         Verdict::Refused(why) => TraverseResult {
             answer: TraverseAnswer::Refused(why),
             machine: start,

@@ -1,8 +1,12 @@
 mod Examples
 pub mod Reasons
-pub mod Pairs
-mod Alone
-mod Undone
+pub mod Noting
+pub mod Full
 pub mod OneFile
+pub mod Pairs
+pub mod Plain
+pub mod Undone
 mod Masks
+pub mod Distinct
+mod Alone
 mod Bottom

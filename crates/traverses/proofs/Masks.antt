@@ -10,11 +10,12 @@ use lib.Dec.{eqb}
 use lib.ListN.{getD}
 use lib.Pow.{pow-add, pow-mono, pow-pos, high}
 use Rattle.model.specs.Words.{field, bit}
+use Rattle.model.specs.Journal.{roomIn, completes}
 use Rattle.traverses.specs.declared.TraverseAnswer.the-variants.{Marked}
 use Rattle.traverses.specs.declared.TraverseResult.{TraverseResult}
 use Rattle.traverses.specs.Files.{Part, parts, filesIn}
-use Rattle.traverses.specs.Traverse.{finishes, Progress, setOut, oneFile, traversed}
-use Rattle.traverses.specs.Calls.{verdictHere, traverseReturned}
+use Rattle.traverses.specs.Traverse.{Progress, setOut, fileNoted, oneFile, traversed}
+use Rattle.traverses.specs.Calls.{verdictHere, wholeTraverse, traverseReturned}
 use Rattle.traverses.specs.Theorems.{outcomes, MaskTells}
 use Rattle.traverses.proofs.Reasons.{returned}
 use Rattle.traverses.proofs.Undone.{carried-out, maskOf}
@@ -60,52 +61,54 @@ module _ (x s : ℕ) (h : x < 2 ^ s) where
 
 -- ---- file by file
 
-module _ (bottom : ℕ) (t : Progress) (h : t .undone < 2 ^ t .files) (p : Part) where
-  abbrev done : Bool
-  done = finishes bottom (t .machine) (t .memory) p
+module _ (bottom room : ℕ) where
+  module _ (t : Progress) (h : t .undone < 2 ^ t .files) (p : Part) where
+    abbrev done : Bool
+    done = completes (fileNoted bottom 1 room t p)
 
-  still-small : oneFile bottom t p .undone < 2 ^ oneFile bottom t p .files
+    still-small : oneFile bottom 1 room t p .undone < 2 ^ oneFile bottom 1 room t p .files
+    unfolding oneFile
+    still-small = small (t .undone) (t .files) h done
+
+    own-bit : bit (oneFile bottom 1 room t p .undone) (t .files) ≡ not done
+    unfolding oneFile
+    own-bit = own (t .undone) (t .files) h done
+
+    lower-bits : (j : ℕ) → j < t .files → bit (oneFile bottom 1 room t p .undone) j ≡ bit (t .undone) j
+    unfolding oneFile
+    lower-bits j l = lower (t .undone) (t .files) h done j l
+
+  next-file : (t : Progress) (p : Part) → oneFile bottom 1 room t p .files ≡ t .files + 1
   unfolding oneFile
-  still-small = small (t .undone) (t .files) h done
+  next-file t p = refl
 
-  own-bit : bit (oneFile bottom t p .undone) (t .files) ≡ not done
-  unfolding oneFile
-  own-bit = own (t .undone) (t .files) h done
+  -- later files leave the bits of earlier ones
+  stays : (ps : List Part) (t : Progress) → t .undone < 2 ^ t .files → (j : ℕ) → j < t .files → bit (traversed bottom 1 room ps t .undone) j ≡ bit (t .undone) j
+  unfolding traversed
+  stays [] t h j l = refl
+  stays (p ∷ ps) t h j l =
+      stays ps (oneFile bottom 1 room t p) (still-small t h p) j (omega (arith, next-file t p)) ∙ lower-bits t h p j l
 
-  lower-bits : (j : ℕ) → j < t .files → bit (oneFile bottom t p .undone) j ≡ bit (t .undone) j
-  unfolding oneFile
-  lower-bits j l = lower (t .undone) (t .files) h done j l
-
-next-file : (bottom : ℕ) (t : Progress) (p : Part) → oneFile bottom t p .files ≡ t .files + 1
-unfolding oneFile
-next-file bottom t p = refl
-
--- later files leave the bits of earlier ones
-stays : (bottom : ℕ) (ps : List Part) (t : Progress) → t .undone < 2 ^ t .files → (j : ℕ) → j < t .files → bit (traversed bottom 1 ps t .undone) j ≡ bit (t .undone) j
-unfolding traversed
-stays bottom [] t h j l = refl
-stays bottom (p ∷ ps) t h j l =
-    stays bottom ps (oneFile bottom t p) (still-small bottom t h p) j (omega (arith, next-file bottom t p)) ∙ lower-bits bottom t h p j l
-
-tells : (bottom : ℕ) (ps : List Part) (t : Progress) → t .undone < 2 ^ t .files → (i : ℕ) → bit (traversed bottom 1 ps t .undone) (t .files + i) ≡ not (getD (outcomes bottom ps t) i true)
-unfolding traversed outcomes
-tells bottom [] t h i = no-bit (t .undone) (t .files + i) (lt-of-lt-of-le h (pow-mono (omega arith)))
-tells bottom (p ∷ ps) t h zero =
-    let u = oneFile bottom t p in
-    ap (bit (traversed bottom 1 ps u .undone)) (add-zero (t .files))
-    ∙ stays bottom ps u (still-small bottom t h p) (t .files) (omega (arith, next-file bottom t p)) ∙ own-bit bottom t h p
-tells bottom (p ∷ ps) t h (suc i) =
-    let u = oneFile bottom t p in
-    let e : t .files + suc i ≡ u .files + i = omega (arith, next-file bottom t p) in
-    ap (bit (traversed bottom 1 ps u .undone)) e ∙ tells bottom ps u (still-small bottom t h p) i
+  tells : (ps : List Part) (t : Progress) → t .undone < 2 ^ t .files → (i : ℕ)
+      → bit (traversed bottom 1 room ps t .undone) (t .files + i) ≡ not (getD (outcomes bottom 1 room ps t) i true)
+  unfolding traversed outcomes
+  tells [] t h i = no-bit (t .undone) (t .files + i) (lt-of-lt-of-le h (pow-mono (omega arith)))
+  tells (p ∷ ps) t h zero =
+      let u = oneFile bottom 1 room t p in
+      ap (bit (traversed bottom 1 room ps u .undone)) (add-zero (t .files))
+      ∙ stays ps u (still-small t h p) (t .files) (omega (arith, next-file t p)) ∙ own-bit t h p
+  tells (p ∷ ps) t h (suc i) =
+      let u = oneFile bottom 1 room t p in
+      let e : t .files + suc i ≡ u .files + i = omega (arith, next-file t p) in
+      ap (bit (traversed bottom 1 room ps u .undone)) e ∙ tells ps u (still-small t h p) i
 
 pub mask-tells : MaskTells
 unfolding traverseReturned
 mask-tells memory bottom journal load files start memory′ journal′ r c mask e i =
-    let ps = parts (filesIn files) load in
-    let t = setOut start memory in
+    let t = wholeTraverse memory bottom journal load files start 1 in
     let told = sym (ap (λ (x : TraverseResult). x .answer) (c .result)) ∙ e in
-    let v = carried-out (verdictHere memory bottom journal load files start 1) 1 start (traversed bottom 1 ps t) (Marked mask) told refl in
+    let v = carried-out (verdictHere memory bottom journal load files start 1) 1 start t (Marked mask) told refl in
     let q = returned memory bottom journal load files start 1 v c in
-    let same : traversed bottom 1 ps t .undone ≡ mask = ap maskOf (sym (ap (λ (x : TraverseResult). x .answer) q) ∙ e) in
-    ap (λ (n : ℕ). bit n i) (sym same) ∙ ap (bit (traversed bottom 1 ps t .undone)) (sym (zero-add i)) ∙ tells bottom ps t (omega arith) i
+    let same : t .undone ≡ mask = ap maskOf (sym (ap (λ (x : TraverseResult). x .answer) q) ∙ e) in
+    ap (λ (n : ℕ). bit n i) (sym same) ∙ ap (bit (t .undone)) (sym (zero-add i))
+    ∙ tells bottom (roomIn journal) (parts (filesIn files) load) (setOut start memory journal) (omega arith) i

@@ -1,117 +1,140 @@
--- The pairs of a traverse: taken back they give the memory before, and how many there are.
-use Prim.Native.Nat.{ℕ, suc, _+_, _≤_}
+-- The pairs of a file and of a traverse, taken back, give the memory before.
+use Prim.Native.Nat.{ℕ, _+_, _^_}
 use mathlib.Core.Path.{_≡_, refl, sym, ap, ap₂, _∙_}
-use mathlib.Core.Bool.{cond}
+use mathlib.Core.Bool.{Bool, true, false, cond}
 use mathlib.Core.List.{List, [], _∷_, _++_}
 use native.Mathlib.Omega.{arith}
-use lib.ListN.{length, take, drop, length-append, length-take}
-use lib.Seq.{set-set, set-getD}
+use lib.Dec.{eqb}
+use lib.ListN.{length, drop}
+use lib.Pow.{pow-pos}
+use borrow.Author.Tests.{ne-eqb}
 use Rattle.model.specs.declared.Machine.{Machine}
 use Rattle.model.specs.declared.Verdict.{Verdict}
 use Rattle.model.specs.declared.Verdict.the-variants.{Accepted, Refused}
-use Rattle.model.specs.Words.{wordAt, storeWord, overlay}
-use Rattle.model.specs.Journal.{journalPairs, journalWords}
-use Rattle.model.specs.Refusals.{leftBy}
+use Rattle.model.specs.Words.{overlay}
+use Rattle.model.specs.Journal.{Pair, Noted, completes, journalWords}
+use Rattle.model.specs.Refusals.{leftBy, fileVerdict}
 use Rattle.model.proofs.Cases.{pick}
-use Rattle.model.proofs.Runs.{pairs-le}
-use Rattle.model.proofs.Verdicts.{accepted}
+use Rattle.model.proofs.Journals.{by-room}
 use Rattle.journal.specs.Undo.{undone, restored}
-use Rattle.journal.proofs.Journals.{undone-restores, restored-append, restored-again, restored-run}
-use Rattle.interpreter.specs.Calls.{fileBoard}
+use Rattle.journal.proofs.Journals.{undone-restores, restored-again}
+use Rattle.journal.proofs.Restoring.{noted-store, run-restores}
+use Rattle.interpreter.specs.declared.FileResult.{FileResult}
+use Rattle.interpreter.specs.Calls.{fileBoard, fileResult, memoryEnd, wholeFile, fileReturned, fileWords, filePlaces}
 use Rattle.traverses.specs.declared.TraverseResult.{TraverseResult}
-use Rattle.traverses.specs.Files.{Part, parts, wanted, filesIn}
-use Rattle.traverses.specs.Traverse.{laid, laidPairs, partStart, partRun, partPairs, finishes, Progress, setOut, oneFile, takenBack, traversed}
+use Rattle.traverses.specs.Files.{Part, parts, filesIn}
+use Rattle.traverses.specs.Traverse.{layOne, layAll, partLaid, partNoted, Progress, setOut, takenBack, fileNoted, oneFile, traversed}
 use Rattle.traverses.specs.Calls.{traverseResult, verdictHere, wholeTraverse, traverseReturned, traverseWords, traversePlaces}
-use Rattle.traverses.specs.Theorems.{PairsRestore, JournalRestores, PairsFew, RoomForPairs}
-use Rattle.traverses.proofs.Reasons.{bounded, returned}
+use Rattle.traverses.specs.Theorems.{FileRestores, JournalRestores, LastRestores}
+use Rattle.traverses.proofs.Noting.{lay-keeps}
 
--- ---- taken back
+-- ---- one file
 
-restored-laid : (memory : List ℕ) (place : ℕ) (words : List ℕ) → restored (laidPairs memory place words) (laid memory place words) ≡ memory
-unfolding restored laid laidPairs
-restored-laid memory place [] = refl
-restored-laid memory place (w ∷ ws) =
-    ap (λ (m : List ℕ). storeWord m place (wordAt memory place)) (restored-laid (storeWord memory place w) (place + 1) ws)
-    ∙ set-set memory place w (wordAt memory place) ∙ set-getD memory place 0
+-- words laid
+pub laid-restores : (room : ℕ) (words : List ℕ) (k : Noted) (place : ℕ)
+    → restored (layAll room k place words .pairs) (layAll room k place words .run .memory) ≡ restored (k .pairs) (k .run .memory)
+unfolding layOne
+laid-restores room words k place =
+    let R : Noted → Type 0 = λ x. restored (x .pairs) (x .run .memory) ≡ restored (k .pairs) (k .run .memory) in
+    lay-keeps room R
+    (λ x at word h. by-room room R x _ _ (λ _. h) (λ _ _. noted-store (x .pairs) (x .run .memory) at word ∙ h) (λ _ _. h))
+    words k place refl
 
-pub pairs-restore : PairsRestore
-unfolding partPairs partRun
-pairs-restore bottom m memory p =
-    let start = partStart m memory p in
-    let board = fileBoard bottom in
-    restored-append (laidPairs memory (p .file .place) (p .words)) (journalPairs board (p .file .count) start) _
-    ∙ ap (restored (laidPairs memory (p .file .place) (p .words))) (restored-run board (p .file .count) start)
-    ∙ restored-laid memory (p .file .place) (p .words)
+-- a file's pairs, after those that it starts with, give the memory that those give
+pub part-restores : (bottom room : ℕ) (pairs : List Pair) (m : Machine) (memory : List ℕ) (p : Part)
+    → restored (partNoted bottom room pairs m memory p .pairs) (partNoted bottom room pairs m memory p .run .memory) ≡ restored pairs memory
+unfolding partNoted partLaid
+part-restores bottom room pairs m memory p =
+    run-restores (fileBoard bottom) room (p .file .count) (partLaid room pairs m memory p) ∙ laid-restores room (p .words) _ (p .file .place)
 
-module _ (bottom : ℕ) where
-  -- also where the file has gone back itself
-  pub file-restores : (t : Progress) (p : Part) → restored (oneFile bottom t p .pairs) (oneFile bottom t p .memory) ≡ restored (t .pairs) (t .memory)
-  unfolding oneFile
-  file-restores t p =
-      let m = t .machine in
-      let memory = t .memory in
-      let pairs = partPairs bottom m memory p in
-      let after = partRun bottom m memory p .memory in
-      let gone : restored pairs after ≡ memory = pairs-restore bottom m memory p in
-      let again : restored pairs memory ≡ memory = ap (restored pairs) (sym gone) ∙ restored-again pairs after ∙ gone in
-      restored-append (t .pairs) pairs _
-      ∙ ap (restored (t .pairs)) (pick (λ (x : List ℕ). restored pairs x ≡ memory) (finishes bottom m memory p) gone again)
+-- what pairs give, they give again
+pub gives-again : (ps : List Pair) (after memory : List ℕ) → restored ps after ≡ memory → restored ps memory ≡ memory
+gives-again ps after memory e = ap (restored ps) (sym e) ∙ restored-again ps after ∙ e
 
-  traverse-restores : (version : ℕ) (ps : List Part) (t : Progress)
-      → restored (traversed bottom version ps t .pairs) (traversed bottom version ps t .memory) ≡ restored (t .pairs) (t .memory)
-  unfolding traversed
-  traverse-restores version [] t = refl
-  traverse-restores version (p ∷ ps) t =
-      let u = oneFile bottom t p in
-      pick (λ (x : Progress). restored (x .pairs) (x .memory) ≡ restored (t .pairs) (t .memory)) (takenBack version u) (file-restores t p)
-      (traverse-restores version ps u ∙ file-restores t p)
+pub last-restores : LastRestores
+unfolding oneFile restored
+last-restores bottom room t p =
+    let k = fileNoted bottom 1 room t p in
+    let gone = part-restores bottom room [] (t .machine) (t .memory) p in
+    pick (λ (x : List ℕ). restored (k .pairs) x ≡ t .memory) (completes k) gone (gives-again (k .pairs) _ _ gone)
+
+-- ---- a file run
+
+pub file-restores : FileRestores
+unfolding fileReturned fileWords filePlaces undone restored
+file-restores memory bottom journal start count memory′ journal′ r c =
+    let k = wholeFile memory bottom journal start count in
+    let gone : restored (k .pairs) (k .run .memory) ≡ memory = run-restores (fileBoard bottom) _ count _ in
+    ap (λ (x : FileResult). undone (x .pairs) journal′ memory′) (c .result)
+    ∙ ap₂ (λ (j m : List ℕ). undone (fileReturned memory bottom journal start count .pairs) j m) (c .places) (c .words)
+    ∙ by (fileVerdict memory bottom) k (pick (λ (m : List ℕ). restored (k .pairs) m ≡ memory) (completes k) gone (gives-again (k .pairs) _ _ gone))
+  where
+    by : (v : Verdict) (k : Noted) → restored (k .pairs) (memoryEnd memory k) ≡ memory
+        → undone (fileResult v start k .pairs) (leftBy v (overlay (journalWords (k .pairs)) journal) journal) (leftBy v (memoryEnd memory k) memory) ≡ memory
+    by Accepted k e = undone-restores (k .pairs) _ _ ∙ e
+    by (Refused why) k e = refl
+
+-- ---- a traverse
+
+-- its pairs lie from place 0 on
+pub record Leads (t : Progress) : Type 0 where
+  pub rest : List ℕ
+  pub same : t .places ≡ journalWords (t .pairs) ++ rest
+
+pub traverse-leads : (bottom version room : ℕ) (ps : List Part) (t : Progress) → Leads t → Leads (traversed bottom version room ps t)
+unfolding traversed oneFile
+traverse-leads bottom version room [] t h = h
+traverse-leads bottom version room (p ∷ ps) t h =
+    let u = oneFile bottom version room t p in
+    let one : Leads u = record { rest = drop (length (journalWords (u .pairs))) (t .places); same = refl } in
+    pick Leads (takenBack version u) one (traverse-leads bottom version room ps u one)
+
+module _ (bottom version room : ℕ) (two : eqb version 1 ≡ false) (memory : List ℕ) where
+  -- from the memory that it leaves
+  abbrev Gives : Progress → Type 0
+  Gives t = restored (t .pairs) (cond (takenBack version t) memory (t .memory)) ≡ memory
+
+  traverse-gives : (ps : List Part) (t : Progress) → t .undone ≡ 0 → restored (t .pairs) (t .memory) ≡ memory → Gives (traversed bottom version room ps t)
+  unfolding traversed oneFile
+  traverse-gives [] t z h = rw (two, z) h
+  traverse-gives (p ∷ ps) t z h = go (completes k) refl (λ n g. traverse-gives ps u n g)
+    where
+      k : Noted
+      k = fileNoted bottom version room t p
+
+      u : Progress
+      u = oneFile bottom version room t p
+
+      gone : restored (k .pairs) (k .run .memory) ≡ memory
+      gone = part-restores bottom room _ (t .machine) (t .memory) p ∙ rw two h
+
+      go : (b : Bool) → completes k ≡ b
+          → (u .undone ≡ 0 → restored (u .pairs) (u .memory) ≡ memory → Gives (traversed bottom version room ps u))
+          → Gives (cond (takenBack version u) u (traversed bottom version room ps u))
+      go true d rest =
+          let n : u .undone ≡ 0 = rw d z in
+          let on : takenBack version u ≡ false = rw (n, two) in
+          rw on (rest n (rw d gone))
+      go false d rest =
+          let n : eqb (u .undone) 0 ≡ false = rw d (ne-eqb (t .undone + 2 ^ t .files) 0 (λ q. omega (arith, q, pow-pos (t .files)))) in
+          let back : takenBack version u ≡ true = rw (n, two) in
+          rw (back, back) (gives-again (k .pairs) _ _ gone)
 
 pub journal-restores : JournalRestores
-unfolding traverseReturned traverseWords traversePlaces undone restored
-journal-restores memory bottom journal load files start version memory′ journal′ r c =
+unfolding traverseReturned traverseWords traversePlaces undone restored journalWords
+journal-restores memory bottom journal load files start version two memory′ journal′ r c =
     let t = wholeTraverse memory bottom journal load files start version in
-    let back : restored (t .pairs) (t .memory) ≡ memory = traverse-restores bottom version (parts (filesIn files) load) (setOut start memory) in
-    let again : restored (t .pairs) memory ≡ memory = ap (restored (t .pairs)) (sym back) ∙ restored-again (t .pairs) (t .memory) ∙ back in
+    let ps = parts (filesIn files) load in
     ap (λ (x : TraverseResult). undone (x .pairs) journal′ memory′) (c .result)
     ∙ ap₂ (λ (j m : List ℕ). undone (traverseReturned memory bottom journal load files start version .pairs) j m) (c .places) (c .words)
     ∙ by (verdictHere memory bottom journal load files start version) t
-    (pick (λ (m : List ℕ). restored (t .pairs) m ≡ memory) (takenBack version t) again back)
+    (traverse-leads bottom version _ ps (setOut start memory journal) (record { rest = journal; same = refl }))
+    (traverse-gives bottom version _ two memory ps (setOut start memory journal) refl refl)
   where
-    by : (v : Verdict) (t : Progress) → restored (t .pairs) (cond (takenBack version t) memory (t .memory)) ≡ memory
-        → undone (traverseResult v version start t .pairs) (leftBy v (overlay (journalWords (t .pairs)) journal) journal) (leftBy v (cond (takenBack version t) memory (t .memory)) memory)
+    by : (v : Verdict) (t : Progress) → Leads t → restored (t .pairs) (cond (takenBack version t) memory (t .memory)) ≡ memory
+        → undone (traverseResult v version start t .pairs) (leftBy v (t .places) journal) (leftBy v (cond (takenBack version t) memory (t .memory)) memory)
         ≡ memory
-    by Accepted t e = undone-restores (t .pairs) _ _ ∙ e
-    by (Refused why) t e = refl
-
--- ---- how many
-
-pub laid-length : (memory : List ℕ) (place : ℕ) (words : List ℕ) → length (laidPairs memory place words) ≡ length words
-unfolding laidPairs
-laid-length memory place [] = refl
-laid-length memory place (w ∷ ws) = ap suc (laid-length (storeWord memory place w) (place + 1) ws)
-
-pub part-few : (bottom : ℕ) (m : Machine) (memory : List ℕ) (p : Part) → length (partPairs bottom m memory p) ≤ length (p .words) + p .file .count
-unfolding partPairs
-part-few bottom m memory p =
-    rw length-append
-    (omega (arith, laid-length memory (p .file .place) (p .words), pairs-le (fileBoard bottom) (p .file .count) (partStart m memory p)))
-
-pub pairs-few : PairsFew
-unfolding traversed parts wanted oneFile
-pairs-few bottom version [] load t = omega arith
-pairs-few bottom version (f ∷ fs) load t =
-    let p : Part = record { file = f; words = take (f .size) load } in
-    let u = oneFile bottom t p in
-    let n = length (t .pairs) + (f .size + f .count + wanted fs) in
-    let less : length (t .pairs ++ partPairs bottom (t .machine) (t .memory) p) ≤ length (t .pairs) + (f .size + f .count) =
-    rw length-append (omega (arith, part-few bottom (t .machine) (t .memory) p, length-take (f .size) load)) in
-    pick (λ (x : Progress). length (x .pairs) ≤ n) (takenBack version u) (omega arith)
-    (omega (arith, pairs-few bottom version fs (drop (f .size) load) u))
-
-pub room-for-pairs : RoomForPairs
-room-for-pairs memory bottom journal load files start version memory′ journal′ r c z =
-    let v = accepted (verdictHere memory bottom journal load files start version) (sym (c .number) ∙ z) in
-    let q = returned memory bottom journal load files start version v c in
-    let fs = filesIn files in
-    let few : r .pairs ≤ wanted fs = omega (arith, ap (λ (x : TraverseResult). x .pairs) q, pairs-few bottom version fs load (setOut start memory)) in
-    (few, omega (arith, few, bounded memory bottom journal load fs version v .room))
+    by Accepted t l e =
+        ap (λ (j : List ℕ). undone (length (t .pairs)) j (cond (takenBack version t) memory (t .memory))) (l .same)
+        ∙ undone-restores (t .pairs) (l .rest) _ ∙ e
+    by (Refused why) t l e = refl

@@ -1,4 +1,5 @@
--- CR 1: the call `traverse`: its result, the memory and the journal at exit, carried out or turned down.
+-- CR 1: the call `traverse`: its result, the memory and the journal at exit, carried out or turned down. CR 11: "journal full"; 5 and 6 are
+-- given no longer.
 use Prim.Native.Nat.{ℕ, _-_}
 use mathlib.Core.Path.{_≡_}
 use mathlib.Core.Bool.{Bool, cond, _||_}
@@ -9,14 +10,13 @@ use Rattle.model.specs.declared.Machine.{Machine}
 use Rattle.model.specs.declared.Refusal.the-variants.{WrongVersion, TooManyFiles, FileMisplaced, WordsMismatched}
 use Rattle.model.specs.declared.Verdict.{Verdict}
 use Rattle.model.specs.declared.Verdict.the-variants.{Accepted, Refused}
-use Rattle.model.specs.Words.{overlay}
-use Rattle.model.specs.Journal.{journalWords}
+use Rattle.model.specs.Journal.{roomIn}
 use Rattle.model.specs.Refusals.{refusalNumber, verdictNumber, leftBy, demand, _then_, fileVerdict}
 use Rattle.traverses.specs.declared.TraverseAnswer.{TraverseAnswer}
-use Rattle.traverses.specs.declared.TraverseAnswer.the-variants.{Marked, Finished, Undone}
+use Rattle.traverses.specs.declared.TraverseAnswer.the-variants.{Marked, Finished, Undone, Full}
 use Rattle.traverses.specs.declared.TraverseResult.{TraverseResult}
 use Rattle.traverses.specs.declared.File.{File}
-use Rattle.traverses.specs.Files.{filesIn, parts, wanted, sizes, allPlaced}
+use Rattle.traverses.specs.Files.{filesIn, parts, sizes, allPlaced}
 use Rattle.traverses.specs.Traverse.{Progress, setOut, takenBack, traversed}
 
 -- ---- the first reason to turn a traverse down
@@ -38,17 +38,20 @@ hasRule version = eqb version 1 || eqb version 2
 abbrev pub versionFits : ℕ → Verdict
 versionFits version = demand (hasRule version) WrongVersion
 
--- first the reasons of a file run, 1, 2, 21, 5 and 6, with words and instructions of all files for its instructions
-unfoldable pub traverseVerdict : (memory : List ℕ) → (bottom : ℕ) → (journal load : List ℕ) → List File → (version : ℕ) → Verdict
-traverseVerdict memory bottom journal load files version =
-    fileVerdict memory bottom journal (wanted files) then filesFit files memory bottom load then versionFits version
+-- first the reasons of a file run, 1, 2 and 21
+unfoldable pub traverseVerdict : (memory : List ℕ) → (bottom : ℕ) → (load : List ℕ) → List File → (version : ℕ) → Verdict
+traverseVerdict memory bottom load files version =
+    fileVerdict memory bottom then filesFit files memory bottom load then versionFits version
 
 -- ---- what is answered
 
--- under rule 1 the mask; under rule 2 "finished", or "undone" with the number of the file, which is the last that was run
+-- under rule 1 the mask; under rule 2 "finished", or "undone" or "journal full" with the number of the file, which is the last that was run
+abbrev pub stoppedBy : (full : Bool) → (file : ℕ) → TraverseAnswer
+stoppedBy full file = cond full (Full file) (Undone file)
+
 abbrev pub traverseAnswer : (version : ℕ) → Progress → TraverseAnswer
 traverseAnswer version t =
-    cond (eqb version 1) (Marked (t .undone)) (cond (eqb (t .undone) 0) Finished (Undone (t .files - 1)))
+    cond (eqb version 1) (Marked (t .undone)) (cond (eqb (t .undone) 0) Finished (stoppedBy (t .full) (t .files - 1)))
 
 -- a traverse that is taken back, or turned down, returns its start
 abbrev pub traverseResult : Verdict → (version : ℕ) → Machine → Progress → TraverseResult
@@ -67,6 +70,7 @@ abbrev pub traverseNumber : TraverseAnswer → ℕ
 traverseNumber (Marked files) = 0
 traverseNumber Finished = 0
 traverseNumber (Undone file) = 0
+traverseNumber (Full file) = 0
 traverseNumber (TraverseAnswer.Refused why) = refusalNumber why
 
 -- ---- the call
@@ -74,10 +78,10 @@ traverseNumber (TraverseAnswer.Refused why) = refusalNumber why
 -- `load` is the one list that the files' words lie in
 module _ (memory : List ℕ) (bottom : ℕ) (journal load files : List ℕ) (start : Machine) (version : ℕ) where
   abbrev pub verdictHere : Verdict
-  verdictHere = traverseVerdict memory bottom journal load (filesIn files) version
+  verdictHere = traverseVerdict memory bottom load (filesIn files) version
 
   abbrev pub wholeTraverse : Progress
-  wholeTraverse = traversed bottom version (parts (filesIn files) load) (setOut start memory)
+  wholeTraverse = traversed bottom version (roomIn journal) (parts (filesIn files) load) (setOut start memory journal)
 
   -- what it returns, and the memory and the journal that it leaves
   unfoldable pub traverseReturned : TraverseResult
@@ -86,9 +90,8 @@ module _ (memory : List ℕ) (bottom : ℕ) (journal load files : List ℕ) (sta
   unfoldable pub traverseWords : List ℕ
   traverseWords = leftBy verdictHere (cond (takenBack version wholeTraverse) memory (wholeTraverse .memory)) memory
 
-  -- the pairs over the journal's first places; the places that are not used stay
   unfoldable pub traversePlaces : List ℕ
-  traversePlaces = leftBy verdictHere (overlay (journalWords (wholeTraverse .pairs)) journal) journal
+  traversePlaces = leftBy verdictHere (wholeTraverse .places) journal
 
   -- what a traverse promises: its result, the memory's words, the journal's places, and the number for why it was turned down
   pub record Traverses (memory′ journal′ : List ℕ) (r : TraverseResult) : Type 0 where

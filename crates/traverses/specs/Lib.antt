@@ -1,4 +1,5 @@
 pub mod Files
 pub mod Traverse
 pub mod Calls
+pub mod Plain
 pub mod Theorems

@@ -14,12 +14,10 @@ use step_table::LAST_ROW;
 use wait_list::position_fits;
 ghost use mathlib.Core.Path.{_≡_};
 ghost use Rattle.model.specs.Board.{boardWith};
-ghost use Rattle.model.specs.Refusals.{bottomFits, waitsFit, resetsFit, startFits, stateFits, journalFits, runVerdict, fileVerdict, gateVerdict};
+ghost use Rattle.model.specs.Refusals.{bottomFits, waitsFit, resetsFit, startFits, stateFits, runVerdict, fileVerdict, gateVerdict};
 
-// The most entries of a wait list, and instructions of a file run, or words and instructions of a traverse.
+// The most entries of a wait list.
 const MOST_WAITS: usize = 65_536;
-
-const MOST_INSTRUCTIONS: u32 = 65_536;
 
 // Reason 21.
 fn bottom_fits(memory: &[u32], bottom: u32) -> Verdict
@@ -62,17 +60,6 @@ fn state_fits(waits: &[u16], s: GateState) -> Verdict
     )
 }
 
-// Reasons 5 and 6, of a file run of `count` instructions, or a traverse of as many words and instructions.
-fn journal_fits(journal: &[u32], count: u32) -> Verdict
-    ensures { λ r. ⌜ r ≡ journalFits (now (journal .entry)) count ⌝ }
-{
-    let places = 2 * (count as usize);
-    then(
-        demand(count <= MOST_INSTRUCTIONS, Refusal::TooManyInstructions),
-        demand(places <= journal.len(), Refusal::ShortJournal),
-    )
-}
-
 pub fn run_verdict(memory: &[u32], bottom: u32, waits: &[u16], position: u32) -> Verdict
     ensures { λ r. ⌜ r ≡ runVerdict (now (memory .entry)) (boardWith bottom (now (waits .entry))) position ⌝ }
 {
@@ -84,14 +71,14 @@ pub fn run_verdict(memory: &[u32], bottom: u32, waits: &[u16], position: u32) ->
     then(words, then(base, then(list, place)))
 }
 
-pub fn file_verdict(memory: &[u32], bottom: u32, journal: &[u32], count: u32) -> Verdict
-    ensures { λ r. ⌜ r ≡ fileVerdict (now (memory .entry)) bottom (now (journal .entry)) count ⌝ }
+// A file run's reasons, with which those of a traverse begin.
+pub fn file_verdict(memory: &[u32], bottom: u32) -> Verdict
+    ensures { λ r. ⌜ r ≡ fileVerdict (now (memory .entry)) bottom ⌝ }
 {
-    // 1 and 2; 21; 5 and 6.
+    // 1 and 2; 21.
     let words = memory_fits(memory);
     let base = bottom_fits(memory, bottom);
-    let room = journal_fits(journal, count);
-    then(words, then(base, room))
+    then(words, base)
 }
 
 pub fn gate_verdict(

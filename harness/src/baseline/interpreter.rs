@@ -2,9 +2,11 @@
 //! no code for them. The registers stand apart from the rest of the machine, as
 //! they are indexed and would keep all of it from the processor's registers.
 
+use super::journal::{with_bits, Journal};
 use super::operand::{Operand, DIRECT};
 use super::word_unit::word_unit;
 use super::HALTING_BITS;
+use crate::codes::JOURNAL_FULL;
 use fm8502::library::{DONE, HALTED, STOPPED};
 
 pub(super) struct Engine<'a, const WAITS: bool, const JOURNAL: bool> {
@@ -17,9 +19,7 @@ pub(super) struct Engine<'a, const WAITS: bool, const JOURNAL: bool> {
     bottom: usize,
     waits: &'a [u16],
     position: usize,
-    journal: &'a mut [u32],
-    /// Places of the journal that are filled.
-    filled: usize,
+    pub(super) journal: Journal<'a>,
 }
 
 /// Instructions that ran, their clocks, and the run's code.
@@ -56,7 +56,8 @@ fn plain_run<const WAITS: bool>(
     result: &mut [u64],
 ) -> u32 {
     let mut registers = registers_of(machine);
-    let mut engine = Engine::<WAITS, false>::new(machine, memory, bottom, waits, &mut []);
+    let none = Journal::none();
+    let mut engine = Engine::<WAITS, false>::new(machine, memory, bottom, waits, none);
     engine.position = position as usize;
     let ran = engine.run(&mut registers, count);
     engine.give(&registers, machine);
@@ -74,17 +75,30 @@ pub fn file_run(
     count: u32,
     result: &mut [u64],
 ) -> u32 {
-    let mut registers = registers_of(machine);
-    let mut engine = Engine::<false, true>::new(machine, memory, bottom, &[], journal);
-    let ran = engine.run(&mut registers, count);
-    let filled = engine.filled;
-    result.copy_from_slice(&[u64::from(ran.count), filled as u64 / 2]);
-    if ran.code == DONE {
-        engine.give(&registers, machine);
-        return DONE;
+    with_bits(|bits| {
+        let mut registers = registers_of(machine);
+        let journal = Journal::new(journal, bits);
+        let mut engine = Engine::<false, true>::new(machine, memory, bottom, &[], journal);
+        let ran = engine.run(&mut registers, count);
+        result.copy_from_slice(&[u64::from(ran.count), engine.journal.pairs()]);
+        if ran.code == DONE {
+            engine.give(&registers, machine);
+        } else {
+            engine.take_back();
+        }
+        engine.journal.start_again();
+        undone_code(ran.code)
+    })
+}
+
+/// A file run does not say whether it was undone at a missing word or at one that halts.
+#[inline(always)]
+pub(super) fn undone_code(code: u32) -> u32 {
+    if code == HALTED {
+        STOPPED
+    } else {
+        code
     }
-    engine.take_back(0);
-    STOPPED
 }
 
 pub(super) fn registers_of(machine: &[u32]) -> [u32; 8] {
@@ -100,7 +114,7 @@ impl<'a, const WAITS: bool, const JOURNAL: bool> Engine<'a, WAITS, JOURNAL> {
         memory: &'a mut [u32],
         bottom: u32,
         waits: &'a [u16],
-        journal: &'a mut [u32],
+        journal: Journal<'a>,
     ) -> Self {
         Engine {
             carry: machine[8] != 0,
@@ -112,7 +126,6 @@ impl<'a, const WAITS: bool, const JOURNAL: bool> Engine<'a, WAITS, JOURNAL> {
             waits,
             position: 0,
             journal,
-            filled: 0,
         }
     }
 
@@ -132,32 +145,24 @@ impl<'a, const WAITS: bool, const JOURNAL: bool> Engine<'a, WAITS, JOURNAL> {
         [self.carry, self.overflow, self.negative, self.zero] = flags;
     }
 
-    /// Places of the journal that are filled.
+    /// Puts the journaled words back.
     #[inline(always)]
-    pub(super) fn filled(&self) -> usize {
-        self.filled
+    pub(super) fn take_back(&mut self) {
+        self.journal.take_back(self.memory);
     }
 
-    /// Puts the words back that were journaled from the place `from` on, last first.
+    /// Lays words from the address `place` on; each is journaled as a store is. Whether all
+    /// of them found a pair.
     #[inline(always)]
-    pub(super) fn take_back(&mut self, from: usize) {
-        for pair in self.journal[from..self.filled].rchunks_exact(2) {
-            self.memory[pair[0] as usize] = pair[1];
-        }
-    }
-
-    /// Lays words from the address `place` on; each is journaled as a store is.
-    #[inline(always)]
-    pub(super) fn lay(&mut self, place: usize, words: &[u32]) {
+    pub(super) fn lay(&mut self, place: usize, words: &[u32]) -> bool {
         let cells = &mut self.memory[place..place + words.len()];
-        let end = self.filled + 2 * words.len();
-        let pairs = self.journal[self.filled..end].chunks_exact_mut(2);
-        for (i, ((cell, &word), pair)) in cells.iter_mut().zip(words).zip(pairs).enumerate() {
-            pair[0] = (place + i) as u32;
-            pair[1] = *cell;
+        for (i, (cell, &word)) in cells.iter_mut().zip(words).enumerate() {
+            if !self.journal.note(place + i, *cell) {
+                return false;
+            }
             *cell = word;
         }
-        self.filled = end;
+        true
     }
 
     #[inline(always)]
@@ -183,7 +188,8 @@ impl<'a, const WAITS: bool, const JOURNAL: bool> Engine<'a, WAITS, JOURNAL> {
         ran
     }
 
-    /// One instruction; returns its clocks, or the code of a run that stops before it.
+    /// One instruction; returns its clocks, or the code of a run that stops before it. Where
+    /// the journal is full, registers and flags are for the caller to put back.
     #[inline(always)]
     fn step(&mut self, registers: &mut [u32; 8]) -> Result<u64, u32> {
         let pc = registers[0];
@@ -215,7 +221,7 @@ impl<'a, const WAITS: bool, const JOURNAL: bool> Engine<'a, WAITS, JOURNAL> {
             if operand_b.mode == DIRECT {
                 registers[operand_b.register] = result;
             } else {
-                clocks += self.store(address, b, result);
+                clocks += self.store(address, b, result).ok_or(JOURNAL_FULL)?;
             }
         }
         operand_a.step_up(registers);
@@ -297,22 +303,15 @@ impl<'a, const WAITS: bool, const JOURNAL: bool> Engine<'a, WAITS, JOURNAL> {
         }
     }
 
-    /// Returns the wait.
+    /// Returns the wait, or nothing where the journal is full.
     #[inline(always)]
-    fn store(&mut self, address: usize, former: u32, word: u32) -> u64 {
+    fn store(&mut self, address: usize, former: u32, word: u32) -> Option<u64> {
         if address >= self.bottom {
-            self.alter(address, former, word);
+            if JOURNAL && !self.journal.note(address, former) {
+                return None;
+            }
+            self.memory[address] = word;
         }
-        self.wait()
-    }
-
-    #[inline(always)]
-    fn alter(&mut self, address: usize, former: u32, word: u32) {
-        if JOURNAL {
-            self.journal[self.filled] = address as u32;
-            self.journal[self.filled + 1] = former;
-            self.filled += 2;
-        }
-        self.memory[address] = word;
+        Some(self.wait())
     }
 }

@@ -6,6 +6,7 @@ mod gate_machine;
 pub mod gate_unit;
 mod image;
 mod interpreter;
+mod journal;
 mod of_reference;
 mod operand;
 mod traverse;

@@ -1,5 +1,6 @@
 //! Whether all contenders do the same, before anything is measured.
 
+use super::journals;
 use super::resets::FAR;
 use super::traverses::{self, Traverse};
 use super::workload::{
@@ -9,7 +10,10 @@ use super::workload::{
 use crate::baseline::{Contender, CONTENDERS};
 use crate::words::{machine_words, state_words};
 use fm8502::library::{MACHINE_SIZE, STATE_SIZE};
-use reference::generate::program::any_program;
+use reference::generate::journal::{
+    pairs_of_program, places, storing_program, storing_traverse_case, traverse_places,
+};
+use reference::generate::program::{any_program, Program};
 use reference::generate::resets::resets;
 use reference::generate::state::gate_state;
 use reference::generate::traverse::traverse_case;
@@ -28,6 +32,10 @@ pub fn check(starts: u64) {
     for (traverse, _) in traverses::measured() {
         check_traverse(&traverse);
     }
+    for (workload, pairs) in journals::measured() {
+        check_file_run(&workload, 2 * pairs, journals::COUNT);
+        check_file_run(&workload, 2 * pairs - 1, journals::COUNT);
+    }
 }
 
 /// Generated starts, without resets and with them.
@@ -35,25 +43,39 @@ fn check_starts(starts: u64) {
     for seed in 0..starts {
         let mut rng = Rng::new(seed);
         let program = any_program(&mut rng);
-        let mut workload = Workload {
-            name: format!("start {seed}"),
-            machine: machine_words(&program.start),
-            memory: program.memory.clone(),
-            bottom: program.bottom,
-            waits: program.waits.clone(),
-            resets: Vec::new(),
-        };
+        let mut workload = workload(seed, &program);
         check_runs(&workload, program.position, program.count);
         check_gates(&workload, workload.state(), rng.below(400) as u64);
         let state = gate_state(&mut rng, program.memory.len(), program.waits.len());
         check_gates(&workload, state_words(&state), 60);
         workload.resets = resets(&mut rng, &program, state, 60);
         check_gates(&workload, state_words(&state), 60);
-        check_traverse(&Traverse::generated(
-            &workload.name,
-            &traverse_case(&mut rng, &program),
-        ));
+        let mut case = traverse_case(&mut rng, &program);
+        check_traverse(&Traverse::generated(&workload.name, &case));
+        case.places = traverse_places(&mut rng, &case);
+        check_traverse(&Traverse::generated(&workload.name, &case));
+        check_storing(&mut rng, seed);
     }
+}
+
+fn workload(seed: u64, program: &Program) -> Workload {
+    Workload {
+        name: format!("start {seed}"),
+        machine: machine_words(&program.start),
+        memory: program.memory.clone(),
+        bottom: program.bottom,
+        waits: program.waits.clone(),
+        resets: Vec::new(),
+    }
+}
+
+/// Programs that store much, with journals around what they need.
+fn check_storing(rng: &mut Rng, seed: u64) {
+    let program = storing_program(rng);
+    let places = places(rng, pairs_of_program(&program));
+    check_file_run(&workload(seed, &program), places, program.count);
+    let case = storing_traverse_case(rng);
+    check_traverse(&Traverse::generated(&format!("start {seed}"), &case));
 }
 
 /// The measured programs, without waits and with them.
@@ -101,9 +123,15 @@ fn check_runs(start: &Workload, position: u32, count: u32) {
         let code = (contender.run)(lent.0, bottom, waits, position, lent.1, count, lent.2);
         (code, memory, machine, result)
     });
+    check_file_run(start, 2 * count as usize, count);
+}
+
+/// With a journal of so many places.
+fn check_file_run(start: &Workload, places: usize, count: u32) {
+    let bottom = start.bottom;
     all_same(&format!("file run, {}", start.name), |contender| {
         let (mut memory, mut machine) = (start.memory.clone(), start.machine);
-        let mut journal = vec![7; 2 * count as usize];
+        let mut journal = vec![7; places];
         let mut result = [0; 2];
         let lent = (&mut memory, &mut journal, &mut machine);
         let code = (contender.file_run)(lent.0, bottom, lent.1, lent.2, count, &mut result);

@@ -9,7 +9,7 @@ use super::Sizes;
 use crate::baseline::{Contender, CONTENDERS};
 use std::cell::RefCell;
 
-/// The longest file.
+/// Instructions of each file, with a pair for each of them.
 const COUNT: u32 = 65_536;
 
 /// Each row of times has one for each contender.

@@ -4,6 +4,7 @@ pub mod agreement;
 pub mod calls;
 pub mod file_runs;
 pub mod images;
+pub mod journals;
 mod measure;
 pub mod resets;
 pub mod runs;

@@ -18,7 +18,7 @@ const FILES: u32 = 64;
 const WORDS: u32 = 512;
 const INSTRUCTIONS: u32 = 500;
 
-/// Of each file that does not: the most that there may be in all.
+/// Of each file that does not.
 const WORDS_ALONE: u32 = 1_024;
 
 /// Where the words are laid: the first samples. The memory has so many words.

@@ -2,6 +2,7 @@
 
 use crate::words::compute;
 use fm8502::library::{MACHINE_SIZE, STATE_SIZE};
+use reference::refusal::MOST_WORDS;
 use reference::rng::Rng;
 use reference::Operand;
 use Operand::{After, Direct, Indirect};
@@ -154,6 +155,30 @@ pub fn stacking_loop() -> Workload {
     ]);
     let registers = [0, FIRST, FIRST + SAMPLES, SAMPLES, 0, 0, 0, 0];
     Workload::new("stacking loop", registers, memory)
+}
+
+/// Adds r1 to as many words of the longest memory, one every `step` words, and then begins
+/// again.
+pub fn storing_loop(addresses: u32, step: u32) -> Workload {
+    const ABOVE_CODE: u32 = 16;
+    let mut memory = vec![0; MOST_WORDS];
+    let constants = [(3, addresses), (2, ABOVE_CODE)];
+    let load = |(to, word)| [compute(MOVE, NONE, After(0), Direct(to)), word];
+    memory[..4].copy_from_slice(&constants.map(load).concat());
+    // From here on, r6, as long as r3 is not 0; r7 is 0.
+    memory[4..9].copy_from_slice(&[
+        compute(ADD, NONE, Direct(1), Indirect(2)),
+        compute(ADD, NONE, Direct(5), Direct(2)),
+        compute(DECREMENT, ZERO, Direct(3), Direct(3)),
+        move_if(NOT_ZERO, NONE, Direct(6), Direct(0)),
+        move_if(ALWAYS, NONE, Direct(7), Direct(0)),
+    ]);
+    let registers = [0, 7, 0, 0, 0, step, 4, 0];
+    let name = match step {
+        1 => format!("{addresses} addresses side by side"),
+        _ => format!("{addresses} addresses, one every {step} words"),
+    };
+    Workload::new(&name, registers, memory)
 }
 
 /// The stacking loop without an end: it comes outside after 50,988 instructions.

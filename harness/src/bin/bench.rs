@@ -1,7 +1,9 @@
 //! Prints the proved emulator's speed as tables in Markdown.
 
 use harness::arguments::{numbers, value};
-use harness::bench::{agreement, calls, file_runs, images, resets, runs, traverses, Sizes};
+use harness::bench::{
+    agreement, calls, file_runs, images, journals, resets, runs, traverses, Sizes,
+};
 
 const HELP: &str = "\
 Usage: bench [--rounds N] [--instructions N] [--clocks N] [--words N] [--calls N]
@@ -38,9 +40,12 @@ fn main() {
     println!("All four agree on {starts} generated starts and on the measured programs.");
     println!("Best of {} rounds in which they take turns.", sizes.rounds);
     let (files, plain) = file_runs::file_runs(sizes);
+    let (journals, plain_storing) = journals::journals(sizes);
     let tables = [
         runs::interpreter(sizes),
         files,
+        journals,
+        journals::calls(sizes),
         traverses::traverses(sizes),
         runs::gate_machine(sizes),
         resets::resets(sizes),
@@ -49,6 +54,7 @@ fn main() {
     println!("\n## Ratios");
     tables.iter().for_each(|table| table.print_ratios());
     tables[1].print_against(&plain);
+    tables[2].print_against(&plain_storing);
     println!("\n## Times");
     tables.iter().for_each(|table| table.print_times());
     calls::calls(sizes);

@@ -2,27 +2,30 @@
 
 use harness::arguments::{numbers, value};
 use harness::differential::{
-    bottom, directed, gates, halting, images, limits, long, misfits, programs, refusals, resets,
-    sums, traverse_borders, traverse_limits, traverses, vectors, Check,
+    bottom, directed, gates, halting, images, journal_files, journals, limits, long, misfits,
+    programs, refusals, resets, strides, sums, traverse_borders, traverse_limits, traverses,
+    vectors, Check,
 };
 use reference::rng::Rng;
 use std::process::exit;
 
 const HELP: &str = "\
-Usage: differential [--programs N] [--seed S] [--loops N] [--traverses N] [--images N]
-                    [--states N]
+Usage: differential [--programs N] [--seed S] [--loops N] [--stores N] [--traverses N]
+                    [--images N] [--states N]
 
 Runs generated cases through the proved calls and through the reference
 emulator, and compares what they return and leave. Case i has seed S + i.
-Without numbers: 10000 programs, seed 1, as many traverses as programs, a tenth as
-many images and states, and a hundredth as many programs that loop; of traverses on
-programs that loop there are as many as of these.
+Without numbers: 10000 programs, seed 1, as many traverses as programs, as many of
+either on programs that store much (--stores), a tenth as many images and states, and
+a hundredth as many programs that loop; of traverses on programs that loop there are
+as many as of these.
 ";
 
-const NAMES: [&str; 6] = [
+const NAMES: [&str; 7] = [
     "--programs",
     "--seed",
     "--loops",
+    "--stores",
     "--traverses",
     "--images",
     "--states",
@@ -33,16 +36,20 @@ fn main() {
     let programs = value(&given, "--programs", 10_000);
     let seed = value(&given, "--seed", 1);
     let loops = value(&given, "--loops", programs / 100);
+    let stores = value(&given, "--stores", programs);
     let traverses = value(&given, "--traverses", programs);
     let images = value(&given, "--images", programs / 10);
     let states = value(&given, "--states", programs / 10);
 
     check_programs("programs", seed, programs, programs::check);
     check_programs("loops", seed, loops, programs::check_looping);
+    check_programs("stores", seed, stores, programs::check_storing);
     check_long(seed);
     check_traverses("--traverses", seed, traverses, traverses::check);
     check_traverses("--loops", seed, loops, traverses::check_looping);
+    check_traverses("--stores", seed, stores, traverses::check_storing);
     check_directed_traverses(seed);
+    check_journals();
     each(seed, states, "--states", gates::check_state);
     println!("{states} gate states agree, seed {seed}");
     check_images(seed, images);
@@ -119,6 +126,18 @@ fn check_directed_traverses(seed: u64) {
     settle(traverse_borders::check(&mut rng, &mut tally), &options);
     settle(traverse_limits::check(&mut rng, &mut tally), &options);
     println!("directed traverses agree, seed {seed}: {tally}");
+}
+
+fn check_journals() {
+    let mut tally = traverses::Tally::default();
+    let borders = settle(journals::check(), "journals");
+    settle(journal_files::check(&mut tally), "journals of traverses");
+    let strides = settle(strides::check(), "strides");
+    println!(
+        "{borders} file runs at the borders of a journal agree, and {strides} calls that store \
+         all over a memory"
+    );
+    println!("traverses at the borders of a journal agree: {tally}");
 }
 
 fn check_images(seed: u64, cases: u64) {

@@ -76,6 +76,24 @@ pub fn bottom_programs() -> Vec<Program> {
     programs.concat()
 }
 
+/// Stores of the storing program.
+pub const STORES: usize = 4;
+
+/// Two stores to words 6 and 5, one more to 6, one to 7; then a store to a missing word.
+pub fn storing_program() -> Program {
+    let mut start = Machine::default();
+    start.registers[1..7].copy_from_slice(&[71, 6, 5, 74, 7, 8]);
+    Program {
+        // move r1,(r2), move r1,(r3), move r4,(r2), move r4,(r5), move r4,(r6).
+        memory: vec![0x0141, 0x0161, 0x0144, 0x01A4, 0x01C4, 15, 16, 17],
+        bottom: 0,
+        waits: Vec::new(),
+        position: 0,
+        start,
+        count: 5,
+    }
+}
+
 /// Of so many instructions.
 pub fn clock_total(p: &Program, count: u32) -> u64 {
     let memory = &mut p.memory.clone();

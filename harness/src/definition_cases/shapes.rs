@@ -1,11 +1,12 @@
 //! One case of each kind, as the constructor's arguments.
 
-use crate::case_words::{ending_number, flag_number, latch_words};
+use crate::case_words::{ending_number, file_number, flag_number, latch_words};
 use reference::generate::program::Program;
 use reference::{file_run, gate_run, run, Answer, GateState, Refusal};
 
-/// A run, and the journal of a file run of the same program.
-pub fn run_case(p: &Program) -> String {
+/// A run, and two file runs of the same program: with a pair for each instruction, and with
+/// so many pairs.
+pub fn run_case(p: &Program, room: usize) -> String {
     let mut memory = p.memory.clone();
     let r = run(
         &mut memory,
@@ -15,12 +16,8 @@ pub fn run_case(p: &Program) -> String {
         p.start,
         p.count,
     );
-    let mut journal = vec![0; 2 * p.count as usize];
-    let file_memory = &mut p.memory.clone();
-    let f = file_run(file_memory, p.bottom, &mut journal, p.start, p.count);
-    journal.truncate(2 * f.pairs as usize);
     format!(
-        "runCase {} {} {} {} {} {} {} {} {} {} {} {} {} {} {}",
+        "runCase {} {} {} {} {} {} {} {} {} {} {} {} {} {} {} {} {}",
         numbers(&p.memory),
         numbers(&p.start.registers),
         flag_number(p.start.flags),
@@ -31,12 +28,24 @@ pub fn run_case(p: &Program) -> String {
         numbers(&memory),
         numbers(&r.machine.registers),
         flag_number(r.machine.flags),
-        numbers(&journal),
         r.ran,
         r.clocks,
         ending_number(r.answer),
         r.position,
+        file_case(p, p.count as usize),
+        room,
+        file_case(p, room),
     )
+}
+
+/// How a file run with so many pairs ended, how many instructions ran, and its journal.
+fn file_case(p: &Program, room: usize) -> String {
+    let mut journal = vec![0; 2 * room];
+    let memory = &mut p.memory.clone();
+    let f = file_run(memory, p.bottom, &mut journal, p.start, p.count);
+    journal.truncate(2 * f.pairs as usize);
+    let answer = file_number(f.answer);
+    format!("{answer} {} {}", f.ran, numbers(&journal))
 }
 
 pub fn gate_case(p: &Program, resets: &[u64], state: &GateState, clocks: u64) -> String {

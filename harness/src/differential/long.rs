@@ -1,10 +1,10 @@
 //! As far as the rules let a run go: a wait list that comes round many times, a
-//! full one that comes round, a full journal, and a clock total of more than 32 bits.
+//! full one that comes round, a journal of 65,536 pairs, and a clock total of more than 32
+//! bits.
 
 use super::programs::{self, Tally};
 use super::Check;
 use crate::words::compute;
-use reference::file_run::MOST_INSTRUCTIONS;
 use reference::generate::halting::halting_bits;
 use reference::generate::program::Program;
 use reference::refusal::MOST_WAITS;
@@ -20,8 +20,11 @@ const ADD: u8 = 3;
 const COUNTER: u32 = 3;
 const AROUND_COUNTER: [u32; 3] = [0, COUNTER, COUNTER + 1];
 
-/// A journal is filled whole; or half, as the first half of the stores is below.
-const AROUND_STORES: [u32; 2] = [0, MOST_INSTRUCTIONS / 2 * 3];
+/// Stores of a long file run, each to a word of its own.
+const STORES: u32 = 65_536;
+
+/// All of them are above the bottom; or half, as the first half is below.
+const AROUND_STORES: [u32; 2] = [0, STORES / 2 * 3];
 
 /// No flag is permitted.
 const NONE: [bool; 4] = [false; 4];
@@ -93,22 +96,21 @@ fn crossing_its_list(waits: Vec<u16>) -> Program {
     }
 }
 
-/// As many stores as a journal can need, each to a word of its own, of which the
-/// last may be another word.
+/// The last of the stores may be another word.
 fn full_journal(rng: &mut Rng, store: u32, last: u32) -> Program {
-    let count = MOST_INSTRUCTIONS as usize;
+    let count = STORES as usize;
     let mut memory = vec![store; count];
     memory[count - 1] = last;
     memory.extend((0..count).map(|_| rng.word()));
     let mut start = Machine::default();
     start.registers[1] = 7;
-    start.registers[4] = MOST_INSTRUCTIONS;
+    start.registers[4] = STORES;
     Program {
         memory,
         bottom: 0,
         waits: Vec::new(),
         position: 0,
         start,
-        count: MOST_INSTRUCTIONS,
+        count: STORES,
     }
 }

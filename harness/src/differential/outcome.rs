@@ -1,6 +1,7 @@
 //! What a call returned and left in everything it was lent.
 
 use super::lent::guard;
+use crate::codes::JOURNAL_FULL;
 use crate::text::{hex_bytes, hex_words};
 use fm8502::library::{DONE, HALTED, STOPPED};
 use std::fmt;
@@ -34,7 +35,7 @@ impl Outcome {
     }
 
     pub fn carried_out(&self) -> bool {
-        matches!(self.code, DONE | STOPPED | HALTED)
+        matches!(self.code, DONE | STOPPED | HALTED | JOURNAL_FULL)
     }
 }
 

@@ -2,7 +2,9 @@
 
 use super::outcome::Outcome;
 use super::{expected, gates, proved, restarts, run_case, same, traverses, Check};
+use crate::codes::JOURNAL_FULL;
 use fm8502::library::{HALTED, STOPPED};
+use reference::generate::journal::{pairs_of_program, places, storing_program};
 use reference::generate::looping::looping_program;
 use reference::generate::program::{any_program, Program};
 use reference::rng::Rng;
@@ -16,6 +18,8 @@ pub struct Tally {
     pub outside: u64,
     pub halted: u64,
     pub journal_pairs: u64,
+    /// File runs that were undone as their journal was full (CR 11).
+    pub full: u64,
     /// Programs with a store below their bottom.
     pub below: u64,
     /// Resets that had an effect.
@@ -29,6 +33,7 @@ impl fmt::Display for Tally {
             "{} instructions, {} clocks, {} outside, {} halted, {} journal pairs, ",
             self.instructions, self.clocks, self.outside, self.halted, self.journal_pairs
         )?;
+        write!(f, "{} file runs with a full journal, ", self.full)?;
         write!(f, "{} stored below the bottom, ", self.below)?;
         write!(f, "{} resets", self.resets)
     }
@@ -36,6 +41,12 @@ impl fmt::Display for Tally {
 
 pub fn check(rng: &mut Rng, tally: &mut Tally) -> Check {
     let program = any_program(rng);
+    check_program(rng, &program, tally)
+}
+
+/// A program that stores on nearly every instruction.
+pub fn check_storing(rng: &mut Rng, tally: &mut Tally) -> Check {
+    let program = storing_program(rng);
     check_program(rng, &program, tally)
 }
 
@@ -113,13 +124,18 @@ pub fn compare_run(program: &Program) -> Result<Outcome, String> {
     Ok(expected)
 }
 
-/// With a journal of just enough places, of more, and of too few.
+/// With a pair for each instruction, and with journals around the pairs that it needs.
 fn check_file_run(rng: &mut Rng, program: &Program, tally: &mut Tally) -> Check {
-    let enough = 2 * program.count as usize;
-    let expected = compare_file_run(program, enough)?;
-    tally.journal_pairs += expected.result[1];
-    for places in [enough + rng.between(1, 5), rng.below(enough.max(1))] {
-        compare_file_run(program, places)?;
+    let pairs = pairs_of_program(program);
+    let journals = [
+        2 * program.count as usize,
+        places(rng, pairs),
+        places(rng, pairs),
+    ];
+    for places in journals {
+        let expected = compare_file_run(program, places)?;
+        tally.journal_pairs += expected.result[1];
+        tally.full += u64::from(expected.code == JOURNAL_FULL);
     }
     Ok(())
 }

@@ -3,6 +3,7 @@
 use super::gates::{check_clocks, check_gate_run};
 use super::images::{self, NO_VERSIONS, VERSIONS};
 use super::{expected, programs, proved, run_case, same};
+use crate::codes::JOURNAL_FULL;
 use fm8502::library::{self, MACHINE_SIZE, STATE_SIZE, STOPPED};
 use reference::generate::program::{program, Kind, Program};
 use reference::generate::state::{gate_state, refused_gate_state};
@@ -227,6 +228,8 @@ fn check_too_wide_words(program: &Program, words: &[u32]) -> Result<usize, Strin
     Ok(calls.len())
 }
 
+/// Any count and any journal is taken (CR 11). The program does not loop, so that it ends
+/// however high the count is.
 fn check_file_run(program: &Program) -> Result<usize, String> {
     let mut calls = 0;
     for count in [0, 1, 9, 65_536, 65_537, u32::MAX] {
@@ -234,8 +237,7 @@ fn check_file_run(program: &Program) -> Result<usize, String> {
             count,
             ..program.clone()
         };
-        let enough = 2 * count.min(65_537) as usize;
-        for places in [0, enough.saturating_sub(1), enough, enough + 1] {
+        for places in [0, 1, 2, 3, 7, 17, 18, 131_073] {
             programs::compare_file_run(&program, places)?;
             calls += 1;
         }
@@ -245,21 +247,29 @@ fn check_file_run(program: &Program) -> Result<usize, String> {
 
 /// Refused or undone, a run leaves the machine's words, flags that are lent as 9
 /// among them. The memory's first word increments r1; then the run is outside, or the
-/// next word is no instruction.
+/// next word is no instruction, or it stores to the word at r2 and is outside after that.
 fn check_words_kept(long_waits: &[u16]) -> Result<usize, String> {
     const INCREMENT: u32 = 0x0001_0021;
-    let memories = [&mut [INCREMENT][..], &mut [INCREMENT, INCREMENT | 1 << 14]];
+    const ADD_TO: u32 = 0x0003_0141;
+    let undone = [3, 4, STOPPED, STOPPED, STOPPED];
+    let full = [3, 4, JOURNAL_FULL, JOURNAL_FULL, STOPPED];
+    let cases: [(&mut [u32], u32, [u32; 5]); 4] = [
+        (&mut [INCREMENT], 1, undone),
+        (&mut [INCREMENT, INCREMENT | 1 << 14], 2, undone),
+        (&mut [INCREMENT, ADD_TO], 2, undone),
+        (&mut [INCREMENT, ADD_TO], 0, full),
+    ];
     let mut calls = 0;
-    for memory in memories {
-        let length = memory.len() as u32;
-        calls += check_kept(memory, length, long_waits, [3, 4, 6, 6, STOPPED])?;
-        calls += check_kept(memory, length + 1, long_waits, [21; 5])?;
+    for (memory, bottom, due) in cases {
+        let past = memory.len() as u32 + 1;
+        calls += check_kept(memory, bottom, long_waits, due)?;
+        calls += check_kept(memory, past, long_waits, [21; 5])?;
     }
     Ok(calls)
 }
 
 /// Runs with a list that is too long and with a position past the list, and file runs
-/// with two journals that are too short and one that is not.
+/// with two journals that have no pair and one that has one.
 fn check_kept(
     memory: &mut [u32],
     bottom: u32,
@@ -281,7 +291,7 @@ fn check_kept(
         )
     };
     let mut codes = vec![run(long_waits, 0), run(&[2, 1], 2)];
-    for places in [0, 17, 18] {
+    for places in [0, 1, 2] {
         let (journal, result) = (&mut vec![0; places], &mut [0; 2]);
         let code = library::file_run(memory, bottom, journal, &mut machine, 9, result);
         codes.push(code);

@@ -22,7 +22,7 @@ const HALTING: u32 = 3;
 const INCREMENT: u32 = 0x0001_0021;
 
 /// Rounds of all sets of reasons.
-const ROUNDS: usize = 4;
+const ROUNDS: usize = 16;
 
 pub fn check(rng: &mut Rng, tally: &mut Tally) -> Check {
     check_places(tally)?;
@@ -159,16 +159,19 @@ fn check_kinds_of_files(tally: &mut Tally) -> Check {
     Ok(())
 }
 
-/// None, the first word of the code, and all below the second of the data.
+/// None, the first word of the code, and all below the second of the data; with a pair for
+/// each word and instruction, and with fewer.
 fn check_bottoms(case: &mut TraverseCase, tally: &mut Tally) -> Check {
+    let enough = case.places;
     for bottom in [0, 1, DATA + 1] {
         case.bottom = bottom;
-        check_rules(case, tally)?;
+        check_journals(case, &[0, 1, 2, 3, 4, 5, 6, 7, 8, 10, 12, enough], tally)?;
     }
     Ok(())
 }
 
-/// Sums that 32 bits would make small again, with journals of none and of most places.
+/// Sums that 32 bits would make small again, with journals of no place and of many. The
+/// files' instructions are any number (CR 11), as the program halts.
 fn check_sums(tally: &mut Tally) -> Check {
     const TOP: u32 = u32::MAX;
     const HALF: u32 = 1 << 31;
@@ -209,14 +212,14 @@ fn check_journals(case: &mut TraverseCase, places: &[usize], tally: &mut Tally) 
     Ok(())
 }
 
-/// A list of words that is shorter and longer than the files' words, and journals around
-/// what they need.
+/// A list of words that is shorter and longer than the files' words, and journals of every
+/// length up to what they need.
 fn check_lists(tally: &mut Tally) -> Check {
     let mut good = empty();
     good.push(DATA, &[1, 2], 0, 3);
     good.push(DATA + 1, &[], 0, 1);
     good.push(DATA + 1, &[3, 4, 5], 0, 2);
-    let places = [0, good.places - 1, good.places, good.places + 1];
+    let places: Vec<usize> = (0..=good.places + 1).collect();
     for words in 0..=8 {
         let mut case = good.clone();
         case.words.resize(words, 9);

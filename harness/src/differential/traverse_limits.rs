@@ -1,11 +1,12 @@
-//! Traverses as long as the rules let them be, and one word or instruction longer; at the
-//! end of the longest memory; and with flags that are lent as 9 (CR 1).
+//! Long traverses, with journals around what they need; at the end of the longest memory;
+//! and with flags that are lent as 9 (CR 1, CR 11).
 
-use super::traverses::{check_case, check_rules, Tally, RULES};
+use super::traverses::{check_rules, Tally, RULES};
 use super::{expected, proved, Check};
+use crate::codes::JOURNAL_FULL;
 use crate::words::compute;
 use fm8502::library::{self, DONE, MACHINE_SIZE, STOPPED};
-use reference::file_run::MOST_INSTRUCTIONS;
+use reference::generate::journal::pairs_of_traverse;
 use reference::generate::program::Program;
 use reference::generate::traverse::TraverseCase;
 use reference::refusal::MOST_WORDS;
@@ -18,9 +19,9 @@ const HALT: u32 = 3;
 
 /// Words of memory: the stores go to the words after this.
 const STORES: u32 = 1_000;
-const LENGTH: u32 = STORES + MOST_INSTRUCTIONS;
+const LENGTH: u32 = STORES + 65_536;
 
-/// How the work is spread: files, words of each, instructions of each.
+/// How 65,536 words and instructions are spread: files, words of each, instructions of each.
 const SPREADS: [(u32, u32, u32); 6] = [
     (64, 1_024, 0),
     (64, 0, 1_024),
@@ -32,7 +33,7 @@ const SPREADS: [(u32, u32, u32); 6] = [
 
 pub fn check(rng: &mut Rng, tally: &mut Tally) -> Check {
     for spread in SPREADS {
-        check_most(rng, spread, tally)?;
+        check_spread(rng, spread, tally)?;
     }
     check_longest()?;
     check_flags()
@@ -62,26 +63,25 @@ fn program(rng: &mut Rng) -> Program {
     }
 }
 
-/// The work that may be; a file, a word and an instruction more; and with the last file
-/// undone.
-fn check_most(rng: &mut Rng, (files, words, count): (u32, u32, u32), tally: &mut Tally) -> Check {
-    let mut most = TraverseCase::of_none(&program(rng), 1);
+/// So much work; a file, a word and an instruction more; and with the last file undone.
+fn check_spread(rng: &mut Rng, (files, words, count): (u32, u32, u32), tally: &mut Tally) -> Check {
+    let mut spread = TraverseCase::of_none(&program(rng), 1);
     for _ in 0..files {
         let words: Vec<u32> = (0..words).map(|_| rng.word()).collect();
-        most.push(STORES, &words, STORE, count);
+        spread.push(STORES, &words, STORE, count);
     }
     let with = |place, words: &[u32], count| {
-        let mut more = most.clone();
+        let mut more = spread.clone();
         more.push(place, words, STORE, count);
         more
     };
     let ending = |entry| {
-        let mut undone = most.clone();
+        let mut undone = spread.clone();
         undone.files[files as usize - 1].entry = entry;
         undone
     };
     let cases = [
-        most.clone(),
+        spread.clone(),
         with(LENGTH, &[], 0),
         with(STORES, &[7], 0),
         with(STORES, &[], 1),
@@ -94,12 +94,15 @@ fn check_most(rng: &mut Rng, (files, words, count): (u32, u32, u32), tally: &mut
     Ok(())
 }
 
-/// Just as many places as it needs, and one fewer.
+/// A pair for each word and instruction; just as many as all files need, a place more, and
+/// one fewer, so that the last pair is missing.
 fn check_with_journals(case: &mut TraverseCase, tally: &mut Tally) -> Check {
     check_rules(case, tally)?;
-    case.places -= 1;
-    check_case(case, tally)?;
-    case.places += 1;
+    let enough = 2 * pairs_of_traverse(case);
+    for places in [enough.saturating_sub(1), enough, enough + 1] {
+        case.places = places;
+        check_rules(case, tally)?;
+    }
     Ok(())
 }
 
@@ -146,31 +149,40 @@ fn check_longest_case(case: &mut TraverseCase) -> Check {
     Ok(())
 }
 
-/// Flags that are lent as 9 stay where a traverse is refused or taken back; else the
-/// machine is written, with 1 for each, also where every file was undone or there is none.
+/// Words, files, version and places; the code that is due, and the flags.
+type Flagged<'a> = (&'a [u32], &'a [u32], u32, usize, u32, u32);
+
+/// Flags that are lent as 9 stay where a traverse is refused or taken back, also by a full
+/// journal; else the machine is written, with 1 for each, also where every file was undone
+/// or there is none. One word is laid, or none.
 fn check_flags() -> Check {
-    let halt = [0, 0, 0, 1];
-    let laid = [0, 1, 0, 0];
-    let cases: [(&[u32], u32, u32, u32); 9] = [
-        (&[], 1, DONE, 1),
-        (&[], 2, DONE, 1),
-        (&halt, 1, DONE, 1),
-        (&halt, 2, STOPPED, 9),
-        (&[0; 4], 1, DONE, 1),
-        (&[0; 4], 2, DONE, 1),
-        (&[0; 4], 3, 11, 9),
-        (&laid, 1, 18, 9),
-        (&[0, 0, 0, 65_537], 1, 5, 9),
+    let (none, halt, laid) = ([0; 4], [0, 0, 0, 1], [0, 1, 0, 0]);
+    let long = [0, 0, 0, 65_537];
+    let cases: [Flagged; 13] = [
+        (&[], &[], 1, 2, DONE, 1),
+        (&[], &[], 2, 2, DONE, 1),
+        (&[], &halt, 1, 2, DONE, 1),
+        (&[], &halt, 2, 2, STOPPED, 9),
+        (&[], &none, 1, 2, DONE, 1),
+        (&[], &none, 2, 0, DONE, 1),
+        (&[], &none, 3, 2, 11, 9),
+        (&[], &laid, 1, 2, 18, 9),
+        (&[], &long, 1, 2, DONE, 1),
+        (&[], &long, 2, 0, STOPPED, 9),
+        (&[0], &laid, 2, 2, DONE, 1),
+        (&[0], &laid, 1, 1, DONE, 1),
+        (&[0], &laid, 2, 1, JOURNAL_FULL, 9),
     ];
-    for (files, version, due, flag) in cases {
+    for (words, files, version, places, due, flag) in cases {
         let mut machine = [0; MACHINE_SIZE];
         machine[8..].fill(9);
-        let (memory, journal) = (&mut [HALTING_BITS], &mut [0; 2]);
+        let (memory, journal) = (&mut [HALTING_BITS], &mut vec![0; places]);
         let (lent, result) = (&mut machine, &mut [0; 3]);
-        let code = library::traverse(memory, 0, journal, &[], files, lent, version, result);
+        let code = library::traverse(memory, 0, journal, words, files, lent, version, result);
         if code != due || machine[8..] != [flag; 4] || machine[..8] != [0; 8] {
             return Err(format!(
-                "flags of 9, files {files:?}, version {version}: code {code}, machine {machine:?}\n"
+                "flags of 9, files {files:?}, version {version}, {places} places: \
+                 code {code}, machine {machine:?}\n"
             ));
         }
     }

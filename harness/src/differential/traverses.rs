@@ -3,9 +3,11 @@
 
 use super::outcome::Outcome;
 use super::{expected, proved, run_case, same, taken_back, Check};
+use crate::codes::JOURNAL_FULL;
 use crate::text::hex_words;
 use crate::words::file_words;
 use fm8502::library::{DONE, STOPPED};
+use reference::generate::journal::{storing_traverse_case, traverse_places};
 use reference::generate::program::{any_program, Program};
 use reference::generate::traverse::{looping_traverse_case, traverse_case, TraverseCase};
 use reference::generate::traverse_faults::{any_faults, spoil};
@@ -22,9 +24,10 @@ pub struct Tally {
     /// Files that were run, and those of them that were undone.
     pub files: u64,
     pub undone: u64,
-    /// Traverses that were taken back as a whole.
+    /// Traverses that were taken back as a whole, and those of them whose journal was full.
     pub taken_back: u64,
-    /// Words laid by the files that were run.
+    pub full: u64,
+    /// Words of the files that were run, though a full journal may not take them all.
     pub words: u64,
     pub pairs: u64,
     pub refused: u64,
@@ -39,8 +42,8 @@ impl fmt::Display for Tally {
         )?;
         write!(
             f,
-            "{} words laid, {} journal pairs, {} refused",
-            self.words, self.pairs, self.refused
+            "{} of them with a full journal, {} words laid, {} journal pairs, {} refused",
+            self.full, self.words, self.pairs, self.refused
         )
     }
 }
@@ -54,10 +57,11 @@ impl Tally {
         }
         let [undone, _, pairs] = [0, 1, 2].map(|place| outcome.result[place]);
         let mut files = case.files.len();
-        if outcome.code == STOPPED {
+        if matches!(outcome.code, STOPPED | JOURNAL_FULL) {
             files = undone as usize + 1;
             self.undone += 1;
             self.taken_back += 1;
+            self.full += u64::from(outcome.code == JOURNAL_FULL);
         } else {
             self.undone += u64::from(undone.count_ones());
         }
@@ -75,18 +79,24 @@ pub fn check(rng: &mut Rng, tally: &mut Tally) -> Check {
     check_generated(rng, case, tally)
 }
 
+/// On a program that stores on nearly every instruction, with a journal that may be too
+/// small for all files or for one.
+pub fn check_storing(rng: &mut Rng, tally: &mut Tally) -> Check {
+    let case = storing_traverse_case(rng);
+    check_generated(rng, case, tally)
+}
+
 /// On a program that loops.
 pub fn check_looping(rng: &mut Rng, tally: &mut Tally) -> Check {
     let case = looping_traverse_case(rng);
     check_generated(rng, case, tally)
 }
 
-/// Under both rules, also with a journal one place short, and then spoilt.
+/// Under both rules, also with another journal, and then spoilt.
 fn check_generated(rng: &mut Rng, mut case: TraverseCase, tally: &mut Tally) -> Check {
     check_rules(&mut case, tally)?;
-    let mut short = case.clone();
-    short.places = short.places.saturating_sub(1);
-    check_case(&short, tally)?;
+    case.places = traverse_places(rng, &case);
+    check_rules(&mut case, tally)?;
     let faults = any_faults(rng);
     spoil(rng, &mut case, &faults);
     check_case(&case, tally)
@@ -140,6 +150,9 @@ pub fn check_file_run(program: &Program, places: usize, file_run: &Outcome) -> C
             &due,
             || text(&case),
         )?;
+        if traverse.carried_out() {
+            taken_back::check_one(&case, &traverse)?;
+        }
     }
     Ok(())
 }
@@ -147,7 +160,7 @@ pub fn check_file_run(program: &Program, places: usize, file_run: &Outcome) -> C
 /// What a traverse of one must give where the file run gives this.
 fn as_traverse(file_run: &Outcome, rule: u32) -> Outcome {
     let mut due = file_run.clone();
-    let is_undone = file_run.code == STOPPED;
+    let is_undone = matches!(file_run.code, STOPPED | JOURNAL_FULL);
     // A refused call leaves its result as it was, which has a place more here.
     let first = if due.carried_out() {
         u64::from(is_undone && rule == 1)

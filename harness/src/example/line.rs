@@ -8,6 +8,11 @@ use std::ops::Range;
 const FILE_COUNT: usize = 0x0B;
 const PROFILE: Range<usize> = 0x0C..0x0F;
 
+/// Places of a journal: two for each of the memory's 22 words, and too few for the files
+/// under rule 2, which share them.
+const ENOUGH: usize = 44;
+const SHORT: usize = 17;
+
 /// A file with the words that it lays.
 pub type FileWords = (File, Vec<u32>);
 
@@ -37,12 +42,14 @@ pub fn traversed(image: &[u8], files: &[FileWords]) -> String {
         memory: &memory,
         machine: loaded.machine,
     };
-    let [first, second] = [1, 2].map(|version| start.traverse(files, version));
-    let refused = start.traverse(files, 3).result.answer;
+    let [first, second] = [1, 2].map(|version| start.traverse(files, version, ENOUGH));
+    let short = start.traverse(files, 2, SHORT);
+    assert!(short.memory == memory && short.result.machine == loaded.machine);
+    let refused = start.traverse(files, 3, ENOUGH).result.answer;
     let TraverseAnswer::Refused(refusal) = refused else {
         panic!("version 3 is refused");
     };
-    let alone = start.traverse(&[files[0].clone(), files[2].clone()], 1);
+    let alone = start.traverse(&[files[0].clone(), files[2].clone()], 1, ENOUGH);
     let as_alone = alone.memory == first.memory && alone.result.machine == first.result.machine;
     let as_before = second.memory == memory && second.result.machine == loaded.machine;
     let before = lines([
@@ -51,6 +58,7 @@ pub fn traversed(image: &[u8], files: &[FileWords]) -> String {
         written_again(&loaded, &memory),
         format!("rule 1: {}", traverse_line(&first.result)),
         format!("rule 2: {}", traverse_line(&second.result)),
+        format!("rule 2, {SHORT} places: {}", traverse_line(&short.result)),
     ]);
     let after = lines([
         format!("rule 1 as files 0 and 2 alone: {}", yes_or_no(as_alone)),
@@ -85,12 +93,11 @@ struct Left {
 }
 
 impl Start<'_> {
-    /// With a journal of just enough places.
-    fn traverse(&self, files: &[FileWords], version: u32) -> Left {
+    /// With a journal of so many places.
+    fn traverse(&self, files: &[FileWords], version: u32, places: usize) -> Left {
         let words: Vec<u32> = files.iter().flat_map(|(_, words)| words.clone()).collect();
         let files: Vec<File> = files.iter().map(|&(file, _)| file).collect();
-        let work: u32 = files.iter().map(|file| file.words + file.count).sum();
-        let (mut memory, mut journal) = (self.memory.to_vec(), vec![0; 2 * work as usize]);
+        let (mut memory, mut journal) = (self.memory.to_vec(), vec![0; places]);
         let start = self.machine;
         let result = traverse(&mut memory, 0, &mut journal, &words, &files, start, version);
         Left { result, memory }
@@ -102,6 +109,7 @@ fn traverse_line(result: &TraverseResult) -> String {
     let ending = match result.answer {
         TraverseAnswer::Marked(undone) => format!("undone {undone:016X}"),
         TraverseAnswer::TakenBack(file) => format!("undone in file {file}"),
+        TraverseAnswer::JournalFull(file) => format!("journal full in file {file}"),
         answer => panic!("{answer:?}"),
     };
     format!("{ending}, {ran} instructions, {pairs} pairs")

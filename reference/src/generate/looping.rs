@@ -107,7 +107,7 @@ fn end_of_turn(rng: &mut Rng, counter: usize) -> [u32; 6] {
 }
 
 /// The register is set to the word behind the instruction.
-fn load(register: u8) -> u32 {
+pub(super) fn load(register: u8) -> u32 {
     let instruction = Instruction {
         a: Operand::After(0),
         b: Operand::Direct(register),

@@ -222,12 +222,12 @@ fn operand(rng: &mut Rng, register: usize) -> Operand {
     operand_of(rng.below(4), register)
 }
 
-fn operand_of(mode: usize, register: usize) -> Operand {
+pub(super) fn operand_of(mode: usize, register: usize) -> Operand {
     Operand::decode((mode << 3 | register) as u32)
 }
 
 /// The operands with any operation, condition and permits.
-fn encode(rng: &mut Rng, a: Operand, b: Operand) -> u32 {
+pub(super) fn encode(rng: &mut Rng, a: Operand, b: Operand) -> u32 {
     let instruction = Instruction {
         a,
         b,

@@ -52,7 +52,7 @@ impl TraverseCase {
         }
     }
 
-    /// Adds a file, with room for it in the journal.
+    /// Adds a file, with a pair in the journal for each of its words and instructions.
     pub fn push(&mut self, place: u32, words: &[u32], entry: u32, count: u32) {
         self.files.push(File {
             place,
@@ -85,7 +85,7 @@ impl TraverseCase {
 }
 
 /// Files on the program's memory, with its bottom, that are not turned down; the journal
-/// has just enough places, or some more.
+/// has a pair for each word and instruction, or more, so that it is never full.
 pub fn traverse_case(rng: &mut Rng, program: &Program) -> TraverseCase {
     let mut case = TraverseCase::of_none(program, rng.between(1, 2) as u32);
     for _ in 0..number_of_files(rng) {

@@ -3,15 +3,13 @@
 use super::bottom::refused_bottom;
 use super::traverse::TraverseCase;
 use crate::rng::Rng;
-use crate::traverse::{File, MOST_FILES, MOST_WORK};
+use crate::traverse::{File, MOST_FILES};
 
 /// What can be wrong with a traverse besides a memory that is too long.
 #[derive(Clone, Copy, Debug, PartialEq, Eq)]
 pub enum Fault {
     NoWords,
     Bottom,
-    Work,
-    Journal,
     Files,
     Place,
     Words,
@@ -19,11 +17,9 @@ pub enum Fault {
 }
 
 /// In the order in which they are looked at.
-pub const FAULTS: [Fault; 8] = [
+pub const FAULTS: [Fault; 6] = [
     Fault::NoWords,
     Fault::Bottom,
-    Fault::Work,
-    Fault::Journal,
     Fault::Files,
     Fault::Place,
     Fault::Words,
@@ -36,8 +32,6 @@ impl Fault {
         match self {
             Fault::NoWords => 1,
             Fault::Bottom => 21,
-            Fault::Work => 5,
-            Fault::Journal => 6,
             Fault::Files => 16,
             Fault::Place => 17,
             Fault::Words => 18,
@@ -57,13 +51,11 @@ pub fn spoil(rng: &mut Rng, case: &mut TraverseCase, faults: &[Fault]) {
     if case.files.is_empty() {
         case.push(0, &[], 0, 1);
     }
-    // A fault must not mend one that is there: the journal's follows those that change
-    // the work, and the memory's those that look at its length.
+    // A fault must not mend one that is there: the memory's follow those that look at its
+    // length.
     let order = [
         Fault::Files,
         Fault::Place,
-        Fault::Work,
-        Fault::Journal,
         Fault::Words,
         Fault::Version,
         Fault::NoWords,
@@ -78,8 +70,6 @@ fn put(rng: &mut Rng, case: &mut TraverseCase, fault: Fault) {
     match fault {
         Fault::NoWords => case.memory.clear(),
         Fault::Bottom => case.bottom = refused_bottom(rng, case.memory.len()),
-        Fault::Work => too_much_work(rng, case),
-        Fault::Journal => short_journal(rng, case),
         Fault::Files => {
             let files = MOST_FILES + rng.pick(&[1, 1, 2, 7]);
             case.files.resize(files, File::default());
@@ -88,38 +78,6 @@ fn put(rng: &mut Rng, case: &mut TraverseCase, fault: Fault) {
         Fault::Words => mismatch(rng, &mut case.words),
         Fault::Version => case.version = rng.pick(&[0, 3, 257, 258, 1 << 31 | 1, u32::MAX]),
     }
-}
-
-/// One more than may be, far more, or so many that 32 bits would not hold the sum.
-fn too_much_work(rng: &mut Rng, case: &mut TraverseCase) {
-    let at = rng.below(case.files.len());
-    let others = work(case) - u128::from(case.files[at].count);
-    let least = (MOST_WORK - others) as u32 + 1;
-    case.files[at].count = match rng.below(4) {
-        0 => u32::MAX,
-        1 => u32::MAX - (others as u32).saturating_sub(1),
-        2 => rng.between(least as usize, u32::MAX as usize) as u32,
-        _ => least,
-    };
-}
-
-/// Words and instructions of all files.
-fn work(case: &TraverseCase) -> u128 {
-    let of_file = |file: &File| u128::from(file.words) + u128::from(file.count);
-    case.files.iter().map(of_file).sum()
-}
-
-/// One place fewer than enough, or far fewer.
-fn short_journal(rng: &mut Rng, case: &mut TraverseCase) {
-    if work(case) == 0 {
-        case.files[0].count = 1;
-    }
-    let enough = 2 * work(case).min(MOST_WORK) as usize;
-    case.places = if rng.flag() {
-        enough - 1
-    } else {
-        rng.below(enough)
-    };
 }
 
 /// A file ends past the memory, by one word or far; or its words begin below the bottom.

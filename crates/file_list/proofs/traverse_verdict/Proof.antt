@@ -1,11 +1,7 @@
 use borrow.Author.Needs.{needs}
 use Rattle.traverses.specs.Calls.{traverseVerdict}
-use Rattle.file_list.proofs.Lists.{capped-fits}
 use Rattle.file_list.proofs.traverse_verdict.Statement.{statement}
 use Rattle.file_list.proofs.traverse_verdict.Tie as tie
-
-wanted-capped-requires : tie.Need-wanted-capped-requires
-wanted-capped-requires c κs = search needs
 
 file-verdict-requires : tie.Need-file-verdict-requires
 file-verdict-requires c κs = search needs
@@ -24,16 +20,12 @@ then-requires-2 c κs = search needs
 
 returns : tie.Need-returns
 unfolding traverseVerdict
-returns c =
-    let fit = c .before .before .before in
-    let room = fit .before in
-    rw (c .then2 .ensures, c .before .then .ensures, c .before .before .version-fits .ensures, fit .files-fit .ensures, room .file-verdict .ensures, room .before .wanted-capped .ensures, capped-fits)
+returns c = cc
 
 pub traverse-verdict-spec : {M : Type 1} → statement M
 traverse-verdict-spec =
     tie.close
     (tie.spec
-    wanted-capped-requires
     file-verdict-requires
     files-fit-requires
     version-fits-requires

@@ -1,7 +1,8 @@
-use Prim.Native.Nat.{_≤_}
-use mathlib.Core.Path.{_≡_, refl, _∙_}
+use Prim.Native.Nat.{ℕ, _≤_}
+use mathlib.Core.Path.{_≡_, refl, ap, _∙_}
 use native.Mathlib.Omega.{arith}
 use lib.ListN.{length}
+use borrow.Author.Needs.{needs}
 use Rattle.journal.specs.Undo.{undone}
 use Rattle.journal.proofs.Journals.{undone-none, undone-more}
 use Rattle.journal.proofs.undo.Statement.{statement}
@@ -9,10 +10,13 @@ use Rattle.journal.proofs.undo.Tie as tie
 
 abbrev Inv-loop : tie.InvT-loop
 Inv-loop memory₀ journal pairs k₀ memory k =
-    (k ≤ pairs) × (length memory ≡ length memory₀) × (undone k journal memory ≡ undone pairs journal memory₀)
+    (k ≤ k₀) × (length memory ≡ length memory₀) × (undone k journal memory ≡ undone k₀ journal memory₀)
 
 abbrev μ-loop : tie.MeasureT-loop
 μ-loop memory₀ journal pairs k₀ memory k = k
+
+held-requires : tie.Need-held-requires Inv-loop μ-loop
+held-requires c κs = search needs
 
 loop-holds : tie.Need-loop-holds Inv-loop μ-loop
 loop-holds c = (omega arith, refl, refl)
@@ -20,14 +24,10 @@ loop-holds c = (omega arith, refl, refl)
 sub-k : tie.Need-sub-k Inv-loop μ-loop
 sub-k c = omega arith
 
-cast-put-back : tie.Need-cast-put-back Inv-loop μ-loop
-cast-put-back c = omega (arith, c .before .before .before .before .before .fits .pairs)
-
-mul-put-back : tie.Need-mul-put-back Inv-loop μ-loop
-mul-put-back c = omega (arith, c .before .before .before .before .before .fits .pairs)
-
 put-back-requires : tie.Need-put-back-requires Inv-loop μ-loop
-put-back-requires c κs = omega (arith, c .before .before .before .before .before .fits .pairs)
+put-back-requires c κs =
+    let held = c .before .before .before in
+    omega (arith, c .before .before .loop .inv .0, held .held .ensures, c .before .loop-test .taken)
 
 loop-less : tie.Need-loop-less Inv-loop μ-loop
 loop-less c = omega arith
@@ -36,7 +36,7 @@ loop-again : tie.Need-loop-again Inv-loop μ-loop
 loop-again c =
     let put = c .before .before .put-back in
     let l = c .before .before .before .before .before in
-    let more = undone-more (l .loop .k) (l .before .before .before .args .journal .now) (l .loop .memory) (omega arith) in
+    let more = undone-more (l .loop .k) (l .before .before .before .before .args .journal .now) (l .loop .memory) (omega arith) in
     (omega arith, put .kept .0 ∙ l .loop .inv .1, rw (put .ensures) more ∙ l .loop .inv .2)
 
 same-length : tie.Need-same-length Inv-loop μ-loop
@@ -45,7 +45,9 @@ same-length c = c .before .loop .inv .1
 returns : tie.Need-returns Inv-loop μ-loop
 returns c =
     let l = c .before in
-    undone-none (l .loop .k) (l .before .before .before .args .journal .now) (l .loop .memory) (c .loop-test .left) ∙ l .loop .inv .2
+    let journal = l .before .before .before .before .args .journal .now in
+    undone-none (l .loop .k) journal (l .loop .memory) (c .loop-test .left) ∙ l .loop .inv .2
+    ∙ ap (λ (n : ℕ). undone n journal (l .before .before .before .before .args .memory .now)) (l .before .held .ensures)
 
 pub undo-spec : {M : Type 1} → statement M
 undo-spec =
@@ -53,10 +55,9 @@ undo-spec =
     (tie.spec
     Inv-loop
     μ-loop
+    held-requires
     loop-holds
     sub-k
-    cast-put-back
-    mul-put-back
     put-back-requires
     loop-less
     loop-again

@@ -1,6 +1,6 @@
 use mathlib.Core.Path.{sym, _∙_}
-use borrow.Author.Needs.{needs}
 use Rattle.traverse.proofs.Answers.{refused}
+use borrow.Author.Needs.{needs}
 use Rattle.traverse.proofs.traverse.Statement.{statement}
 use Rattle.traverse.proofs.traverse.Tie as tie
 
@@ -19,17 +19,14 @@ carry-out-requires c κs = sym (c .before .before .before .before .traverse-verd
 same-length : tie.Need-same-length
 same-length c = search needs
 
-same-length-2 : tie.Need-same-length-2
-same-length-2 c = search needs
-
 returns : tie.Need-returns
 returns c = refused (c .before .before .before .traverse-verdict .ensures) (c .before .why .given .1)
 
+same-length-2 : tie.Need-same-length-2
+same-length-2 c = search needs
+
 same-length-3 : tie.Need-same-length-3
 same-length-3 c = search needs
-
-same-length-4 : tie.Need-same-length-4
-same-length-4 c = search needs
 
 returns-2 : tie.Need-returns-2
 returns-2 c = search needs
@@ -43,8 +40,7 @@ traverse-spec =
     enum-told
     carry-out-requires
     same-length
-    same-length-2
     returns
+    same-length-2
     same-length-3
-    same-length-4
     returns-2)

@@ -9,14 +9,8 @@ memory-fits-requires c κs = search needs
 bottom-fits-requires : tie.Need-bottom-fits-requires
 bottom-fits-requires c κs = search needs
 
-journal-fits-requires : tie.Need-journal-fits-requires
-journal-fits-requires c κs = search needs
-
 then-requires : tie.Need-then-requires
 then-requires c κs = search needs
-
-then-requires-2 : tie.Need-then-requires-2
-then-requires-2 c κs = search needs
 
 returns : tie.Need-returns
 unfolding fileVerdict
@@ -28,7 +22,5 @@ file-verdict-spec =
     (tie.spec
     memory-fits-requires
     bottom-fits-requires
-    journal-fits-requires
     then-requires
-    then-requires-2
     returns)
