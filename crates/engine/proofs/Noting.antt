@@ -140,7 +140,7 @@ module _ (words : ℕ) (journal map : List ℕ) (r : I.Run) (ps : List Pair) (t 
             run = refl;
             full = refl;
             counted = sym (length-append ps (p ∷ []));
-            places = noted-words ps p (length ps) refl places journal refl true;
+            places = noted-words ps p places journal refl;
             told = one-noted t p inside e there;
             fits = omega (arith, less, length-append ps (p ∷ []));
             size = kept;

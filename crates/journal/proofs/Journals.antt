@@ -1,20 +1,17 @@
--- Taking pairs back: a journal's places are its list of pairs, and those of a run give the memory from before it, also once it is back.
+-- Taking pairs back: a journal's places are its list of pairs; taken back once more, they change nothing.
 use Prim.Native.Nat.{ℕ, zero, suc, _+_, _-_, _*_, _≤_, _<_}
 use mathlib.Core.Path.{_≡_, refl, sym, ap, ap₂, _∙_}
-use mathlib.Core.Bool.{Bool, true, false, cond, _&&_}
+use mathlib.Core.Bool.{Bool, true, false}
 use mathlib.Core.List.{List, [], _∷_, _++_, append-nil, append-assoc}
 use native.Mathlib.Numerals.{add-one}
 use native.Mathlib.Omega.{arith}
 use lib.Dec.{eqb}
 use lib.ListN.{length, length-append}
-use lib.Seq.{getD-append-add, set-set, set-comm, set-getD}
+use lib.Seq.{getD-append-add, set-set, set-comm}
 use borrow.Author.Tests.{eqb-true, eqb-false}
-use Rattle.model.specs.Words.{wordAt, storeWord, alterable}
-use Rattle.model.specs.Board.{Board}
-use Rattle.model.specs.Operands.{inMemory}
-use Rattle.model.specs.Interpreter.{Run, opB, addressB, aluOut, isStored, execute, stop, advance, interpret}
-use Rattle.model.specs.Journal.{Pair, storedBy, journalPairs, journalWords}
-use Rattle.model.proofs.Runs.{one-more, words-length, words-append}
+use Rattle.model.specs.Words.{wordAt, storeWord}
+use Rattle.model.specs.Journal.{Pair, journalWords}
+use Rattle.model.proofs.Runs.{words-length, words-append}
 use Rattle.journal.specs.Undo.{undone, restored}
 
 pub undone-none : (k : ℕ) (journal memory : List ℕ) → k ≤ 0 → memory ≡ undone k journal memory
@@ -93,41 +90,3 @@ restored-again [] memory = refl
 restored-again (p ∷ ps) memory =
     covered ps (restored ps memory) (p .address) (p .former) (p .former)
     ∙ ap (λ (m : List ℕ). storeWord m (p .address) (p .former)) (restored-again ps memory)
-
--- ---- a run's pairs
-
--- one store, or none, or one that alters nothing
-restored-store : (memory : List ℕ) (a x : ℕ) (s b v : Bool)
-    → restored (cond (s && b && v) (record { address = a; former = wordAt memory a } ∷ []) []) (cond s (cond b (cond v (storeWord memory a x) memory) memory) memory)
-    ≡ memory
-unfolding restored
-restored-store memory a x true true true = set-set memory a x (wordAt memory a) ∙ set-getD memory a 0
-restored-store memory a x true true false = refl
-restored-store memory a x true false v = refl
-restored-store memory a x false b v = refl
-
-module _ (board : Board) where
-  restored-one : (r : Run) → restored (storedBy (board .bottom) r) (advance board r .memory) ≡ r .memory
-  unfolding storedBy execute stop restored
-  restored-one r =
-      let memory = r .memory in
-      let m = r .machine in
-      one-more board (λ (x : Run). restored (storedBy (board .bottom) r) (x .memory) ≡ memory) r
-      (λ e t. rw (e, t) (restored-store memory (addressB memory m) (aluOut memory m .result) (isStored memory m) (inMemory (opB memory m)) (alterable (board .bottom) (addressB memory m))))
-      (λ e t. rw (e, t))
-      (λ e. rw e)
-
-  -- the whole run taken back
-  pub restored-run : (n : ℕ) (r : Run) → restored (journalPairs board n r) (interpret board n r .memory) ≡ r .memory
-  unfolding journalPairs interpret restored
-  restored-run zero r = refl
-  restored-run (suc n) r =
-      let i = interpret board n r in
-      restored-append (journalPairs board n r) (storedBy (board .bottom) i) (advance board i .memory)
-      ∙ ap (restored (journalPairs board n r)) (restored-one i)
-      ∙ restored-run n r
-
-  -- from its journal
-  pub back : (n : ℕ) (r : Run) (rest : List ℕ)
-      → undone (length (journalPairs board n r)) (journalWords (journalPairs board n r) ++ rest) (interpret board n r .memory) ≡ r .memory
-  back n r rest = undone-restores (journalPairs board n r) rest (interpret board n r .memory) ∙ restored-run n r

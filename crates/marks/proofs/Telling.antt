@@ -80,10 +80,6 @@ one-more journal ps p front room =
 
 -- ---- what the map tells
 
-pub told-on : {map journal journal′ : List ℕ} {ps : List Pair} {words : ℕ} → Tells map journal ps words → take (2 * length ps) journal′ ≡ journalWords ps → Tells map journal′ ps words
-told-on t e =
-    record { most = t .most; long = t .long; below = t .below; apart = t .apart; told = t .told; none = t .none; front = e }
-
 pub known-told : {map journal : List ℕ} {ps : List Pair} {words : ℕ} → Tells map journal ps words → length ps ≤ roomIn journal → (a : ℕ) → a < words
     → known map journal (length ps) a ≡ hasPair ps a
 unfolding known

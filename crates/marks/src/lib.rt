@@ -14,8 +14,8 @@ ghost use Prim.Native.Nat.{_+_, _/_};
 ghost use lib.Dec.{eqb};
 ghost use Rattle.marks.specs.Marks.{groupOf, marked, forgotten, Notes};
 
-// The words of a map: a table of 16,384 pages, and 1,024 groups of 32 words to give, behind group 0. It takes 192 KiB of a caller's stack.
-pub const MAP_WORDS: usize = 49_184;
+// A map has 49,184 words: a table of 16,384 pages, and 1,024 groups of 32 words to give, behind group 0. Whoever keeps a journal has one on its
+// stack, which takes 192 KiB.
 
 // Whether the journal had no room for a store's pair, and how many pairs it has now.
 pub struct Noting {
@@ -35,8 +35,8 @@ fn is_marked(map: &[u32], address: u32) -> bool
     (word >> (address % 32)) % 2 == 1
 }
 
-// A store's pair, noted where its address has none yet and the journal has room. A program stores mostly to addresses that are marked: that
-// case alone stands here, so that it becomes a part of a run's loop.
+// A store's pair, noted where its address has none yet and the journal has room. A program stores mostly to addresses that are marked, which two
+// words of the map tell.
 pub fn note(map: &mut [u32], journal: &mut [u32], pairs: usize, address: u32, former: u32) -> Noting
     ensures { λ r. ⌜ Notes (now (map .entry)) (now (journal .entry)) pairs address former (now (map .exit)) (now (journal .exit)) r ⌝ }
 {

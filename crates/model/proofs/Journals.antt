@@ -82,7 +82,7 @@ pub goes-on : (room : ℕ) (r after : Run) (pairs stores : List Pair) → length
 unfolding within
 goes-on room r after pairs stores fits = rw (le-leb (length (noting pairs stores)) room (omega (arith, noting-length stores pairs)))
 
-pub one-store : (board : Board) (r : Run) → length (storedBy (board .bottom) r) ≤ 1
+one-store : (board : Board) (r : Run) → length (storedBy (board .bottom) r) ≤ 1
 unfolding journalPairs interpret
 one-store board r = pairs-le board 1 r
 

@@ -1,9 +1,7 @@
 -- Bit i of a mask of 64 bits.
 use Prim.Native.Nat.{ℕ, suc, _+_, _*_, _%_, _^_, _<_}
 use mathlib.Core.Path.{_≡_}
-use mathlib.Core.Bool.{Bool, true, false, cond}
 use native.Mathlib.Nat.{mod-eq-of-lt, one-mul, pow-suc}
-use native.Mathlib.Numerals.{add-one}
 use native.Mathlib.Omega.{arith}
 use lib.Pow.{pow-lt, pow-mono}
 
@@ -13,8 +11,3 @@ module _ (i : ℕ) (h : i < 64) where
 
   pub mask-fits : {u : ℕ} → u < 2 ^ i → u + 2 ^ i < 2 ^ 64
   mask-fits l = omega (arith, pow-suc 2 i, pow-mono {i = suc i} {j = 64} (omega arith))
-
--- a mask of the files before i + 1
-pub mask-low : (i : ℕ) {u : ℕ} → u < 2 ^ i → (done : Bool) → cond done u (u + 2 ^ i) < 2 ^ (i + 1)
-mask-low i l true = rw add-one (omega (arith, pow-suc 2 i))
-mask-low i l false = rw add-one (omega (arith, pow-suc 2 i))

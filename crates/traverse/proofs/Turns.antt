@@ -26,10 +26,10 @@ use Rattle.traverses.specs.Traverse.{Progress, setOut, pairsBefore, takenBack, 
 use Rattle.traverses.specs.Calls.{wholeTraverse}
 use Rattle.traverses.proofs.Reasons.{Bounds}
 use Rattle.traverses.proofs.Pairs.{part-restores}
+use Rattle.traverses.proofs.Masks.{small}
 use Rattle.file_list.proofs.Lists.{one-more}
 use Rattle.traverse.specs.declared.walk.Walk.{Walk}
 use Rattle.traverse.specs.Steps.{fileKept, keptDone, keptWords, partAt, mapBefore, countBefore, nextKept, outset, NextFits, walkOf, Goes}
-use Rattle.traverse.proofs.Masks.{mask-low}
 use Rattle.traverse.proofs.Following.{follows-file, done-is, words-are}
 
 -- under rule 2 a traverse that is not taken back has nothing undone
@@ -273,7 +273,7 @@ module _ {memory₀ : List ℕ} {bottom : ℕ} {journal₀ load files : List ℕ
           number = ap (λ (n : ℕ). n + 1) (a .number);
           undone = undone-is;
           ran = ran-is;
-          low = subst (λ (x : ℕ). x < 2 ^ (i + 1)) (sym (ap (λ (x : Walk). x .undone) walked)) (mask-low i (a .low) (keptDone kept));
+          low = subst (λ (x : ℕ). x < 2 ^ (i + 1)) (sym (ap (λ (x : Walk). x .undone) walked)) (small (w .undone) i (a .low) (keptDone kept));
           laid = omega (arith, at-is, a .laid, sizes-here);
           placed = placed-here .1;
           below = omega arith;

@@ -23,7 +23,7 @@ use Rattle.interpreter.specs.declared.FileAnswer.{FileAnswer}
 use Rattle.interpreter.specs.declared.FileResult.{FileResult}
 use Rattle.interpreter.specs.Calls.{fileBoard, fileResult, wholeFile, fileReturned}
 use Rattle.traverses.specs.Traverse.{layOne}
-use Rattle.traverses.specs.Theorems.{needsOneMore, FullWhen, LaidFullWhen, FullThen, FullThere⁻}
+use Rattle.traverses.specs.Theorems.{needsOneMore, FullWhen, LaidFullWhen, FullThen, FullFrom}
 
 module _ (room : ℕ) (k : Noted) (none : k .full ≡ false) (fits : length (k .pairs) ≤ room) (p : Pair) where
   -- by whether there is a store, and whether its address has a pair
@@ -154,7 +154,7 @@ full-then memory bottom journal start count memory′ journal′ r c e =
     ap (λ (y : FileResult). y .ran) q ∙ ap (λ (y : Run). y .ran) (x .run) ∙ ran-here memory bottom (roomIn journal) start (x .at) (x .before) needs in
     rw ran (record { less = x .less; before = x .before; needs = needs })
 
-pub full-from : FullThere⁻
+pub full-from : FullFrom
 unfolding fileReturned runNoted
 full-from memory bottom journal start count i t memory′ journal′ r c z =
     let board = fileBoard bottom in

@@ -6,7 +6,7 @@ pub mod OneFile
 pub mod Pairs
 pub mod Plain
 pub mod Undone
-mod Masks
+pub mod Masks
 pub mod Distinct
 mod Alone
 mod Bottom

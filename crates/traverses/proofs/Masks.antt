@@ -55,7 +55,7 @@ module _ (x s : ℕ) (h : x < 2 ^ s) where
       let e : s ≡ suc (s - j - 1) + j = omega arith in
       ap (λ (n : ℕ). bit (x + 2 ^ n) j) e ∙ low-bit x (s - j - 1) j
 
-  small : (done : Bool) → cond done x (x + 2 ^ s) < 2 ^ (s + 1)
+  pub small : (done : Bool) → cond done x (x + 2 ^ s) < 2 ^ (s + 1)
   small true = rw add-one (omega (arith, pow-suc 2 s))
   small false = rw add-one (omega (arith, pow-suc 2 s))
 

@@ -80,8 +80,8 @@ FullThen =
     → FileRuns memory bottom journal start count memory′ journal′ r
     → r .answer ≡ FileAnswer.Full → FullThere memory bottom journal start count (r .ran)
 
-abbrev pub FullThere⁻ : Type 0
-FullThere⁻ =
+abbrev pub FullFrom : Type 0
+FullFrom =
     (memory : List ℕ) (bottom : ℕ) (journal : List ℕ) (start : Machine) (count i : ℕ) → FullThere memory bottom journal start count i
     → (memory′ journal′ : List ℕ) (r : FileResult) → FileRuns memory bottom journal start count memory′ journal′ r → fileNumber (r .answer) ≡ 0
     → (r .answer ≡ FileAnswer.Full) × (r .ran ≡ i)

@@ -3,7 +3,7 @@
 use harness::arguments::{numbers, value};
 use harness::differential::{
     bottom, directed, gates, halting, images, journal_files, journals, limits, long, misfits,
-    programs, refusals, resets, strides, sums, traverse_borders, traverse_limits, traverses,
+    programs, refusals, resets, stack, strides, sums, traverse_borders, traverse_limits, traverses,
     vectors, Check,
 };
 use reference::rng::Rng;
@@ -138,6 +138,8 @@ fn check_journals() {
          all over a memory"
     );
     println!("traverses at the borders of a journal agree: {tally}");
+    settle(stack::check(), "stack");
+    println!("a journal is kept from a thread with 256 KiB of stack");
 }
 
 fn check_images(seed: u64, cases: u64) {

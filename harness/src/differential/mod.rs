@@ -19,6 +19,7 @@ mod proved;
 pub mod refusals;
 pub mod resets;
 mod restarts;
+pub mod stack;
 pub mod strides;
 pub mod sums;
 mod taken_back;
