@@ -1,4 +1,3 @@
 pub mod Spending
-mod Keeping
 mod Turns
 pub mod Noting

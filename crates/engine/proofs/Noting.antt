@@ -18,7 +18,8 @@ use Rattle.model.proofs.Runs.{one-more, has-words, noted-words}
 use Rattle.model.proofs.Journals.{full-stays}
 use Rattle.marks.specs.Marks.{known, Tells}
 use Rattle.marks.proofs.Telling.{known-told, one-noted}
-use Rattle.engine.specs.Keeping.{passedBy, noRoom, Kept, keptAt, keptAfter, keepOne, keepRun}
+use Rattle.step.specs.Keeping.{passedBy, noRoom}
+use Rattle.engine.specs.Keeping.{Kept, keptAt, keptAfter, keepOne, keepRun}
 use Rattle.engine.proofs.Turns.{full-kept}
 
 -- ---- full, nothing more runs

@@ -6,7 +6,6 @@ use mathlib.Core.List.{List, [], _∷_}
 use native.Mathlib.Nat.{add-assoc}
 use native.Mathlib.Numerals.{add-one}
 use native.Mathlib.Omega.{arith}
-use lib.Dec.{eqb}
 use lib.ListN.{length}
 use lib.Seq.{set-set, set-getD}
 use Rattle.model.specs.declared.Machine.{Machine}
@@ -24,54 +23,43 @@ use Rattle.model.proofs.Runs.{runAt, stays, no-store}
 use Rattle.model.proofs.Waits.{after-fits}
 use Rattle.model.proofs.Bounds.{clocks-le}
 use Rattle.step.specs.declared.Stepped.{Stepped}
-use Rattle.step.specs.Steps.{journaled, Steps}
-use Rattle.step.proofs.Answers.{runs-on, is-stepped, next-regs, next-flags, next-words, next-places, same-regs, same-words, stops, stores, stores-none}
+use Rattle.step.specs.Keeping.{passedBy, noRoom, Keeps}
+use Rattle.step.specs.Steps.{Steps}
+use Rattle.step.proofs.Answers.{runs-on, next-kept, is-stepped, next-regs, next-flags, same-regs, same-words, same-places, same-marks, same-pairs, stops, stores, stores-none}
 use Rattle.marks.specs.declared.Noting.{Noting}
-use Rattle.marks.specs.Marks.{known, withMark, notingAt}
+use Rattle.marks.specs.Marks.{withMark, notingAt}
 use Rattle.engine.specs.declared.clocks.Spent.{Spent}
 use Rattle.engine.specs.declared.Ended.{Ended}
 use Rattle.engine.specs.Clocks.{spentOf}
-use Rattle.engine.specs.Keeping.{passedBy, noRoom, Keeps, Kept, keptAt, keptAfter, keepOne, keepRun}
+use Rattle.engine.specs.Keeping.{Kept, keptAt, keptAfter, keepOne, keepRun}
 use Rattle.engine.specs.Engine.{endedAt, endedOf, EngineEnds}
-
--- two places of the loop's own, in which the step notes a store
-abbrev blank : List ℕ
-blank = 0 ∷ 0 ∷ []
 
 -- ---- one turn of the definition
 
-module _ (board : Board) {regs memory : List ℕ} {flags : ℕ} {regs′ memory′ pair : List ℕ} {s : Stepped}
-    (h : Steps regs memory (board .bottom) blank 0 flags regs′ memory′ pair s) where
+module _ (board : Board) {regs memory journal map : List ℕ} {pairs flags : ℕ} {regs′ memory′ journal′ map′ : List ℕ} {pairs′ : ℕ} {s : Stepped}
+    (h : Steps regs memory (board .bottom) journal map pairs flags regs′ memory′ journal′ map′ pairs′ s) where
   abbrev m : Machine
   m = packedMachine regs flags
 
-  advances : (p i c : ℕ) → I.goesOn (s .ending) ≡ true → {w : Spent} → w ≡ spentOf (board .waits) (record { clocks = c; position = p }) (s .oa) (s .ob) (s .stored)
-      → I.advance board (runAt m memory p i c) ≡ runAt (packedMachine regs′ (s .flags)) memory′ (w .position) (i + 1) (w .clocks)
+  -- the memory with the instruction's store
+  abbrev words : List ℕ
+  words = I.nextMemory memory m (board .bottom)
+
+  advances : (p i c : ℕ) → I.goesOn (s .ending) ≡ true → s .full ≡ false
+      → {w : Spent} → w ≡ spentOf (board .waits) (record { clocks = c; position = p }) (s .oa) (s .ob) (s .stored)
+      → I.advance board (runAt m memory p i c) ≡ runAt (packedMachine regs′ (s .flags)) words (w .position) (i + 1) (w .clocks)
   unfolding I.advance I.execute
-  advances p i c e f =
+  advances p i c e f g =
       let at = runAt m memory p i c in
       ap (λ (t : Bool). cond t (I.execute board at) (I.stop (I.nextEnding memory m) at)) (runs-on h e)
-      ∙ rw (next-regs h e, next-flags h e, next-words h e, f, is-stepped h e, add-assoc c (I.baseClocks memory m))
+      ∙ rw (next-regs h e f, next-flags h e f, g, is-stepped h e f, add-assoc c (I.baseClocks memory m))
 
-  -- a store that was done is told by the step's count, and its address and former word by the two places
   abbrev alters : Bool
   alters = I.altersMemory memory m (board .bottom)
 
-  told : I.goesOn (s .ending) ≡ true → eqb (s .pairs) 1 ≡ alters
-  told e = ap (λ (s : Stepped). eqb (s .pairs) 1) (is-stepped h e) ∙ go alters
-    where
-      go : (t : Bool) → eqb (cond t 1 0) 1 ≡ t
-      go true = refl
-      go false = refl
-
-  places-of : I.goesOn (s .ending) ≡ true → alters ≡ true → pair ≡ I.addressB memory m ∷ I.valueB memory m ∷ []
-  places-of e t = next-places h e ∙ ap (λ (b : Bool). cond b (I.addressB memory m ∷ I.valueB memory m ∷ []) blank) t
-
-  -- taken back, it leaves the memory before
-  back : I.goesOn (s .ending) ≡ true → alters ≡ true → storeWord memory′ (I.addressB memory m) (I.valueB memory m) ≡ memory
-  back e t =
-      ap (λ (l : List ℕ). storeWord l (I.addressB memory m) (I.valueB memory m)) (next-words h e)
-      ∙ go (I.isStored memory m) (inMemory (I.opB memory m)) (alterable (board .bottom) (I.addressB memory m)) (I.addressB memory m) _ _ t
+  -- taken back, the store leaves the memory before
+  back : alters ≡ true → storeWord words (I.addressB memory m) (I.valueB memory m) ≡ memory
+  back t = go (I.isStored memory m) (inMemory (I.opB memory m)) (alterable (board .bottom) (I.addressB memory m)) (I.addressB memory m) _ _ t
     where
       go : (s b v : Bool) (a x f : ℕ) → ((s && b) && v) ≡ true
           → storeWord (cond s (cond b (cond v (storeWord memory a x) memory) memory) memory) a (cond b (wordAt memory a) f) ≡ memory
@@ -153,60 +141,69 @@ module _ {memory₀ : List ℕ} {board : Board} {from : ℕ} {journal₀ map₀ 
     unfolding I.interpret
     ran-on = ap (λ (n : ℕ). I.interpret board n (I.begin start memory₀ from)) (add-one i) ∙ ap (I.advance board) (a .ran)
 
-    module _ {regs′ memory′ pair : List ℕ} {s : Stepped} (h : Steps regs memory (board .bottom) blank 0 flags regs′ memory′ pair s) where
-      pub stopped : I.goesOn (s .ending) ≡ false → {e : Ended} → e ≡ endedAt false (s .ending) (packedMachine regs′ flags) position i clocks pairs
-          → EngineEnds memory₀ board from journal₀ map₀ pairs₀ start count memory′ journal map e
+    module _ {regs′ memory′ journal′ map′ : List ℕ} {pairs′ : ℕ} {s : Stepped}
+        (h : Steps regs memory (board .bottom) journal map pairs flags regs′ memory′ journal′ map′ pairs′ s) where
+      pub stopped : I.goesOn (s .ending) ≡ false → {e : Ended} → e ≡ endedAt false (s .ending) (packedMachine regs′ flags) position i clocks pairs′
+          → EngineEnds memory₀ board from journal₀ map₀ pairs₀ start count memory′ journal′ map′ e
       unfolding I.stop
       stopped e g =
           let last : I.Run = I.stop (s .ending) here in
           let one = next ∙ kept-none board here last journal map pairs (stores-none h board position i clocks e) (stops h board position i clocks e) in
           ends (keptAt last journal map pairs)
           (kept-on board first′ (keptAt last journal map pairs) (omega arith) one (stopped-kept board last journal map pairs e))
-          (rw (g, same-regs h e)) (same-words h e) refl refl
+          (rw (g, same-regs h e, same-pairs h e)) (same-words h e) (same-places h e) (same-marks h e)
 
       -- the instruction ran, and its store was kept
-      module _ (e : I.goesOn (s .ending) ≡ true) {memory″ journal′ map′ : List ℕ} {k : Noting}
-          (g : Keeps memory′ journal map pairs (eqb (s .pairs) 1) (wordAt pair 0) (wordAt pair 1) memory″ journal′ map′ k) where
+      module _ (e : I.goesOn (s .ending) ≡ true) where
         abbrev b : Machine
         b = packedMachine regs flags
 
+        abbrev words′ : List ℕ
+        words′ = words board h
+
         -- as it was kept: it goes on, or the journal is full
         record Goes (after : I.Run) : Type 0 where
-          onward : k .full ≡ false → (keepRun board (i + 1) first′ ≡ keptAt after journal′ map′ (k .pairs)) × (memory″ ≡ memory′)
-          ended : k .full ≡ true
-              → (keepRun board (i + 1) first′ ≡ filled here journal map pairs) × (memory″ ≡ memory) × (journal′ ≡ journal) × (map′ ≡ map)
+          onward : s .full ≡ false → (keepRun board (i + 1) first′ ≡ keptAt after journal′ map′ pairs′) × (memory′ ≡ words′)
+          ended : s .full ≡ true
+              → (keepRun board (i + 1) first′ ≡ filled here journal map pairs) × (memory′ ≡ memory) × (journal′ ≡ journal) × (map′ ≡ map) × (pairs′ ≡ pairs)
 
-        -- a test that passes it by, that finds no room, that finds room
-        passes : (after : I.Run) → (not (eqb (s .pairs) 1) || passedBy map journal pairs (wordAt pair 0)) ≡ true
+        abbrev fullOf : Noting → Bool
+        fullOf n = n .full
+
+        abbrev pairsOf : Noting → ℕ
+        pairsOf n = n .pairs
+
+        -- no store
+        passes : (after : I.Run) {a f : ℕ} → Keeps words′ journal map pairs false a f memory′ journal′ map′ (notingAt (s .full) pairs′)
             → keepOne board (keptAt here journal map pairs) ≡ keptAt after journal map pairs → Goes after
-        passes after t q =
+        passes after g q =
             record {
-              onward = λ f. (next ∙ q ∙ rw (rw t at (g .places), rw t at (g .marks), rw t at (g .result)), rw t at (g .words));
-              ended = λ f. absurd (true≢false (sym f ∙ ap (λ (n : Noting). n .full) (rw t at (g .result))));
+              onward = λ f. (next ∙ q ∙ rw (g .places, g .marks, ap pairsOf (g .result)), g .words);
+              ended = λ f. absurd (true≢false (sym f ∙ ap fullOf (g .result)));
             }
 
         -- a store: known, without room, noted
-        stored : (p : Pair) → Keeps memory′ journal map pairs true (p .address) (p .former) memory″ journal′ map′ k → (after : I.Run)
+        stored : (p : Pair) → Keeps words′ journal map pairs true (p .address) (p .former) memory′ journal′ map′ (notingAt (s .full) pairs′) → (after : I.Run)
             → keepRun board (i + 1) first′
             ≡ cond (passedBy map journal pairs (p .address)) (keptAt after journal map pairs)
             (cond (noRoom journal pairs) (filled here journal map pairs)
             (keptAt after (noted journal pairs (p .address) (p .former)) (withMark map (p .address)) (pairs + 1)))
-            → storeWord memory′ (p .address) (p .former) ≡ memory
+            → storeWord words′ (p .address) (p .former) ≡ memory
             → (x : Bool) → passedBy map journal pairs (p .address) ≡ x → (y : Bool) → noRoom journal pairs ≡ y → Goes after
         stored p g after kept undo true c y d =
             record {
-              onward = λ f. (rw c at kept ∙ rw (rw c at (g .places), rw c at (g .marks), rw c at (g .result)), rw c at (g .words));
-              ended = λ f. absurd (true≢false (sym f ∙ ap (λ (n : Noting). n .full) (rw c at (g .result))));
+              onward = λ f. (rw c at kept ∙ rw (rw c at (g .places), rw c at (g .marks), ap pairsOf (rw c at (g .result))), rw c at (g .words));
+              ended = λ f. absurd (true≢false (sym f ∙ ap fullOf (rw c at (g .result))));
             }
         stored p g after kept undo false c true d =
             record {
-              onward = λ f. absurd (true≢false (sym (ap (λ (n : Noting). n .full) (rw (c, d) at (g .result))) ∙ f));
-              ended = λ f. (rw (c, d) at kept, rw (c, d) at (g .words) ∙ undo, rw (c, d) at (g .places), rw (c, d) at (g .marks));
+              onward = λ f. absurd (true≢false (sym (ap fullOf (rw (c, d) at (g .result))) ∙ f));
+              ended = λ f. (rw (c, d) at kept, rw (c, d) at (g .words) ∙ undo, rw (c, d) at (g .places), rw (c, d) at (g .marks), ap pairsOf (rw (c, d) at (g .result)));
             }
         stored p g after kept undo false c false d =
             record {
-              onward = λ f. (rw (c, d) at kept ∙ rw (rw (c, d) at (g .places), rw (c, d) at (g .marks), rw (c, d) at (g .result)), rw (c, d) at (g .words));
-              ended = λ f. absurd (true≢false (sym f ∙ ap (λ (n : Noting). n .full) (rw (c, d) at (g .result))));
+              onward = λ f. (rw (c, d) at kept ∙ rw (rw (c, d) at (g .places), rw (c, d) at (g .marks), ap pairsOf (rw (c, d) at (g .result))), rw (c, d) at (g .words));
+              ended = λ f. absurd (true≢false (sym f ∙ ap fullOf (rw (c, d) at (g .result))));
             }
 
         goes : (after : I.Run) → I.advance board here ≡ after → Goes after
@@ -214,26 +211,19 @@ module _ {memory₀ : List ℕ} {board : Board} {from : ℕ} {journal₀ map₀ 
           where
             by : (t : Bool) → alters board h ≡ t → Goes after
             by false q =
-                let no : eqb (s .pairs) 1 ≡ false = told board h e ∙ q in
-                passes after (rw no)
-                (kept-none board here after journal map pairs (stores h board position i clocks e ∙ rw q) n)
+                passes after (rw q at (next-kept h e)) (kept-none board here after journal map pairs (stores h board position i clocks e ∙ rw q) n)
             by true q =
-                let yes : eqb (s .pairs) 1 ≡ true = told board h e ∙ q in
-                let at : wordAt pair 0 ≡ I.addressB memory b = ap (λ (l : List ℕ). wordAt l 0) (places-of board h e q) in
-                let was : wordAt pair 1 ≡ I.valueB memory b = ap (λ (l : List ℕ). wordAt l 1) (places-of board h e q) in
                 let p : Pair = record { address = I.addressB memory b; former = I.valueB memory b } in
                 let kept = next ∙ kept-store board here after journal map pairs p (stores h board position i clocks e ∙ rw q) n in
-                let g′ : Keeps memory′ journal map pairs true (p .address) (p .former) memory″ journal′ map′ k = rw (yes, at, was) at g in
-                stored p g′ after kept (back board h e q) (passedBy map journal pairs (p .address)) refl (noRoom journal pairs) refl
+                stored p (rw q at (next-kept h e)) after kept (back board h q) (passedBy map journal pairs (p .address)) refl (noRoom journal pairs) refl
 
-      pub turn : (e : I.goesOn (s .ending) ≡ true) {memory″ journal′ map′ : List ℕ} {k : Noting}
-          (g : Keeps memory′ journal map pairs (eqb (s .pairs) 1) (wordAt pair 0) (wordAt pair 1) memory″ journal′ map′ k) → k .full ≡ false
+      pub turn : I.goesOn (s .ending) ≡ true → s .full ≡ false
           → {w : Spent} → w ≡ spentOf (board .waits) (record { clocks = clocks; position = position }) (s .oa) (s .ob) (s .stored)
-          → length memory″ ≡ length memory → length journal′ ≡ length journal → length map′ ≡ length map
-          → At memory₀ board from journal₀ map₀ pairs₀ start count memory″ journal′ map′ regs′ (s .flags) (w .position) (w .clocks) (k .pairs) (i + 1)
-      turn e g f {w} d lm lj lp =
-          let q = advances board h position i clocks e d in
-          let (kept, same) = goes e g (runAt (packedMachine regs′ (s .flags)) memory′ (w .position) (i + 1) (w .clocks)) q .onward f in
+          → length memory′ ≡ length memory → length journal′ ≡ length journal → length map′ ≡ length map
+          → At memory₀ board from journal₀ map₀ pairs₀ start count memory′ journal′ map′ regs′ (s .flags) (w .position) (w .clocks) pairs′ (i + 1)
+      turn e f {w} d lm lj lp =
+          let q = advances board h position i clocks e f d in
+          let (kept, same) = goes e (runAt (packedMachine regs′ (s .flags)) (words board h) (w .position) (i + 1) (w .clocks)) q .onward f in
           record {
             state = kept ∙ rw same;
             ran = ran-on ∙ q ∙ rw same;
@@ -244,14 +234,13 @@ module _ {memory₀ : List ℕ} {board : Board} {from : ℕ} {journal₀ map₀ 
             marks = lp ∙ a .marks;
           }
 
-      pub full : (e : I.goesOn (s .ending) ≡ true) {memory″ journal′ map′ : List ℕ} {k : Noting}
-          (g : Keeps memory′ journal map pairs (eqb (s .pairs) 1) (wordAt pair 0) (wordAt pair 1) memory″ journal′ map′ k) → k .full ≡ true
-          → {m : Machine} → m ≡ start → {d : Ended} → d ≡ endedAt true Finished m position i clocks pairs → EngineEnds memory₀ board from journal₀ map₀ pairs₀ start count memory″ journal′ map′ d
-      full e g f is q =
-          let (kept, same, places, marks) = goes e g (I.advance board here) refl .ended f in
+      pub full : I.goesOn (s .ending) ≡ true → s .full ≡ true
+          → {m : Machine} → m ≡ start → {d : Ended} → d ≡ endedAt true Finished m position i clocks pairs′ → EngineEnds memory₀ board from journal₀ map₀ pairs₀ start count memory′ journal′ map′ d
+      full e f is q =
+          let (kept, same, places, marks, counted) = goes e (I.advance board here) refl .ended f in
           ends (filled here journal map pairs)
           (kept-on board first′ (filled here journal map pairs) (omega arith) kept (full-kept board (filled here journal map pairs) refl))
-          (q ∙ ap (λ (m : Machine). endedAt true Finished m position i clocks pairs) is) same places marks
+          (q ∙ rw (is, counted)) same places marks
 
   pub finished : count ≤ i → {e : Ended} → e ≡ endedAt false Finished (packedMachine regs flags) position i clocks pairs
       → EngineEnds memory₀ board from journal₀ map₀ pairs₀ start count memory journal map e

@@ -2,35 +2,13 @@
 -- journal has a map of no words. The definition is model's `runNoted`; that this is the same, as long as the map tells the journal's pairs, is
 -- shown in proofs.
 use Prim.Native.Nat.{ℕ, zero, suc, _+_}
-use mathlib.Core.Path.{_≡_}
-use mathlib.Core.Bool.{Bool, true, false, not, cond, _||_}
+use mathlib.Core.Bool.{Bool, true, false, cond}
 use mathlib.Core.List.{List, [], _∷_}
-use lib.Dec.{eqb, leb}
-use lib.ListN.{length}
-use Rattle.model.specs.Words.{storeWord}
 use Rattle.model.specs.Board.{Board}
 use Rattle.model.specs.Interpreter.{Run, advance}
-use Rattle.model.specs.Journal.{Pair, storedBy, roomIn, noted}
-use Rattle.marks.specs.declared.Noting.{Noting}
-use Rattle.marks.specs.Marks.{known, withMark, notingAt}
-
--- ---- one store
-
--- it is passed by where no journal is kept, or where its address has a pair; else the journal is full, or a pair is noted
-abbrev pub passedBy : (map journal : List ℕ) → (pairs address : ℕ) → Bool
-passedBy map journal pairs address = eqb (length map) 0 || known map journal pairs address
-
-abbrev pub noRoom : (journal : List ℕ) → (pairs : ℕ) → Bool
-noRoom journal pairs = leb (roomIn journal) pairs
-
--- what is kept of a store that was done; where the journal is full it is taken back
-pub record Keeps (memory journal map : List ℕ) (pairs : ℕ) (stored : Bool) (address former : ℕ) (memory′ journal′ map′ : List ℕ) (r : Noting) : Type 0 where
-  pub result : r ≡ cond (not stored || passedBy map journal pairs address) (notingAt false pairs) (cond (noRoom journal pairs) (notingAt true pairs) (notingAt false (pairs + 1)))
-  pub words : memory′ ≡ cond (not stored || passedBy map journal pairs address) memory (cond (noRoom journal pairs) (storeWord memory address former) memory)
-  pub places : journal′ ≡ cond (not stored || passedBy map journal pairs address) journal (cond (noRoom journal pairs) journal (noted journal pairs address former))
-  pub marks : map′ ≡ cond (not stored || passedBy map journal pairs address) map (cond (noRoom journal pairs) map (withMark map address))
-
--- ---- the run
+use Rattle.model.specs.Journal.{Pair, storedBy, noted}
+use Rattle.marks.specs.Marks.{withMark}
+use Rattle.step.specs.Keeping.{passedBy, noRoom}
 
 pub record Kept : Type 0 where
   pub run : Run

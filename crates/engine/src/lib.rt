@@ -1,12 +1,10 @@
 // The loop that every run of whole instructions shares. One loop with one call of the step, waits and journal in it: a second one would cost both their
 // speed.
 mod clocks;
-mod keep;
 
 use clocks::Spent;
 use clocks::begins_at;
 use clocks::clocked;
-use keep::keep;
 use model::Ending;
 use model::Machine;
 use packed_flags::packed;
@@ -72,8 +70,8 @@ fn full_end(start: Machine, position: usize, ran: u32, clocks: u64, pairs: usize
     }
 }
 
-// Up to `count` instructions, from a position in the wait list, with a journal of some pairs and the map that tells them. The step notes a
-// store in two places of the loop's own, and the pair is kept from there. Callers that want no journal lend no places and a map of no words.
+// Up to `count` instructions, from a position in the wait list, with a journal of some pairs and the map that tells them. Callers that want no
+// journal lend no places and a map of no words.
 pub fn engine(
     memory: &mut [u32],
     bottom: u32,
@@ -95,14 +93,12 @@ pub fn engine(
     let mut pairs = noted;
     let mut i: u32 = 0;
     while i < count {
-        let mut pair: [u32; 2] = [0, 0];
-        let s = step(&mut regs, memory, bottom, &mut pair, 0, flags);
+        let s = step(&mut regs, memory, bottom, journal, map, &mut pairs, flags);
         let ending = s.ending;
         if !goes_on(ending) {
             return run_end(ending, regs, flags, position, i, clocks, pairs);
         }
-        let k = keep(memory, journal, map, pairs, s.pairs == 1, pair[0], pair[1]);
-        if k.full {
+        if s.full {
             return full_end(start, position, i, clocks, pairs);
         }
         let oa = s.oa;
@@ -111,7 +107,6 @@ pub fn engine(
         flags = s.flags;
         clocks = c.clocks;
         position = c.position;
-        pairs = k.pairs;
         i += 1;
     }
     run_end(Ending::Finished, regs, flags, position, i, clocks, pairs)

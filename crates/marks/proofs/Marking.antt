@@ -14,7 +14,7 @@ use lib.Seq.{sets, getD-set-other}
 use borrow.Author.Tests.{eqb-true, eqb-false, ltb-true, ltb-false, leb-true, leb-false, le-leb, lt-leb}
 use Rattle.model.specs.Words.{field, bit, wordAt, storeWord}
 use Rattle.model.specs.Journal.{roomIn, noted}
-use Rattle.marks.specs.Marks.{groupOf, given, spare, marked, withBit, withGroup, withMark, listed, searched, known, notingAt, Notes}
+use Rattle.marks.specs.Marks.{groupOf, given, spare, marked, hasMark, withBit, withGroup, withMark, listed, searched, known, notingAt, Notes}
 
 -- ---- one word
 
@@ -137,7 +137,7 @@ module _ (journal : List ℕ) (address : ℕ) where
 -- ---- whether an address has a pair, and a store noted
 
 module _ (map journal : List ℕ) (pairs address : ℕ) where
-  pub known-marked : (not (eqb (groupOf map address) 0) && marked map address) ≡ true → known map journal pairs address ≡ true
+  pub known-marked : hasMark map address ≡ true → known map journal pairs address ≡ true
   unfolding known
   known-marked = go (eqb (groupOf map address) 0)
     where
@@ -145,7 +145,7 @@ module _ (map journal : List ℕ) (pairs address : ℕ) where
       go true e = cc
       go false e = e
 
-  pub known-paged : (not (eqb (groupOf map address) 0) && marked map address) ≡ false → eqb (groupOf map address) 0 ≡ false → false ≡ known map journal pairs address
+  pub known-paged : hasMark map address ≡ false → eqb (groupOf map address) 0 ≡ false → false ≡ known map journal pairs address
   unfolding known
   known-paged e f = rw f (sym (rw f at e))
 

@@ -5,7 +5,7 @@
 use Prim.Native.Nat.{ℕ, zero, suc, _+_, _*_, _/_, _%_, _^_, _≤_, _<_}
 use mathlib.Core.Path.{_≡_}
 use mathlib.Core.Logic.{_≢_}
-use mathlib.Core.Bool.{Bool, true, false, cond, _&&_, _||_}
+use mathlib.Core.Bool.{Bool, true, false, not, cond, _&&_, _||_}
 use mathlib.Core.List.{List}
 use lib.Bits.{bitOr}
 use lib.Dec.{eqb, ltb, leb}
@@ -34,6 +34,10 @@ bitPlace group address = 16384 + 32 * group + address % 1024 / 32
 
 unfoldable pub marked : (map : List ℕ) → (address : ℕ) → Bool
 marked map address = bit (wordAt map (bitPlace (groupOf map address) address)) (address % 32)
+
+-- whether its page has a group and its bit is set
+abbrev pub hasMark : (map : List ℕ) → (address : ℕ) → Bool
+hasMark map address = not (eqb (groupOf map address) 0) && marked map address
 
 -- the map with an address's bit set
 unfoldable pub withBit : (map : List ℕ) → (address : ℕ) → List ℕ

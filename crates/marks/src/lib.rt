@@ -9,10 +9,9 @@ use operands::load;
 use operands::store;
 use search::is_unmarked_known;
 ghost use mathlib.Core.Path.{_≡_};
-ghost use mathlib.Core.Bool.{not, false, _&&_};
+ghost use mathlib.Core.Bool.{false};
 ghost use Prim.Native.Nat.{_+_, _/_};
-ghost use lib.Dec.{eqb};
-ghost use Rattle.marks.specs.Marks.{groupOf, marked, forgotten, Notes};
+ghost use Rattle.marks.specs.Marks.{hasMark, forgotten, notingAt, Notes};
 
 // A map has 49,184 words: a table of 16,384 pages, and 1,024 groups of 32 words to give, behind group 0. Whoever keeps a journal has one on its
 // stack, which takes 192 KiB.
@@ -23,9 +22,10 @@ pub struct Noting {
     pub pairs: usize,
 }
 
-// Whether an address's page has a group and its bit is set.
-fn is_marked(map: &[u32], address: u32) -> bool
-    ensures { λ r. ⌜ r ≡ (not (eqb (groupOf (now (map .entry)) address) 0) && marked (now (map .entry)) address) ⌝ }
+// Whether an address's page has a group and its bit is set. A program stores mostly to such addresses, and two words of the map tell: callers in a
+// hot loop ask this first, and call `note` for the others alone.
+pub fn is_marked(map: &[u32], address: u32) -> bool
+    ensures { λ r. ⌜ r ≡ hasMark (now (map .entry)) address ⌝ }
 {
     let group = load(map, (address / 1_024) as usize);
     if group == 0 {
@@ -35,35 +35,46 @@ fn is_marked(map: &[u32], address: u32) -> bool
     (word >> (address % 32)) % 2 == 1
 }
 
-// A store's pair, noted where its address has none yet and the journal has room. A program stores mostly to addresses that are marked, which two
-// words of the map tell.
-pub fn note(map: &mut [u32], journal: &mut [u32], pairs: usize, address: u32, former: u32) -> Noting
-    ensures { λ r. ⌜ Notes (now (map .entry)) (now (journal .entry)) pairs address former (now (map .exit)) (now (journal .exit)) r ⌝ }
+// A store's pair, noted where its address has none yet and the journal has room. Whether the journal had no room for it. The pairs are counted where
+// the caller keeps their number, so that a loop does not carry it.
+pub fn note(
+    map: &mut [u32],
+    journal: &mut [u32],
+    pairs: &mut usize,
+    address: u32,
+    former: u32,
+) -> bool
+    ensures { λ r. ⌜ Notes (now (map .entry)) (now (journal .entry)) (now (pairs .entry)) address former (now (map .exit)) (now (journal .exit)) (notingAt r (now (pairs .exit))) ⌝ }
 {
     if is_marked(&*map, address) {
-        return Noting { full: false, pairs };
+        return false;
     }
     note_new(map, journal, pairs, address, former)
 }
 
 // A store to an address without a mark.
-fn note_new(map: &mut [u32], journal: &mut [u32], pairs: usize, address: u32, former: u32) -> Noting
-    requires { ⌜ (not (eqb (groupOf (now map) address) 0) && marked (now map) address) ≡ false ⌝ }
-    ensures { λ r. ⌜ Notes (now (map .entry)) (now (journal .entry)) pairs address former (now (map .exit)) (now (journal .exit)) r ⌝ }
+fn note_new(
+    map: &mut [u32],
+    journal: &mut [u32],
+    pairs: &mut usize,
+    address: u32,
+    former: u32,
+) -> bool
+    requires { ⌜ hasMark (now map) address ≡ false ⌝ }
+    ensures { λ r. ⌜ Notes (now (map .entry)) (now (journal .entry)) (now (pairs .entry)) address former (now (map .exit)) (now (journal .exit)) (notingAt r (now (pairs .exit))) ⌝ }
 {
-    if is_unmarked_known(&*map, &*journal, pairs, address) {
-        return Noting { full: false, pairs };
+    let n = *pairs;
+    if is_unmarked_known(&*map, &*journal, n, address) {
+        return false;
     }
-    if journal.len() / 2 <= pairs {
-        return Noting { full: true, pairs };
+    if journal.len() / 2 <= n {
+        return true;
     }
-    journal[2 * pairs] = address;
-    journal[2 * pairs + 1] = former;
+    journal[2 * n] = address;
+    journal[2 * n + 1] = former;
     mark(map, address);
-    Noting {
-        full: false,
-        pairs: pairs + 1,
-    }
+    *pairs = n + 1;
+    false
 }
 
 // No group given, for a memory of so many words: the bits of a group are cleared when it is given.

@@ -2,9 +2,8 @@
 use super::group::has_spare;
 use operands::load;
 ghost use mathlib.Core.Path.{_≡_};
-ghost use mathlib.Core.Bool.{not, false, _&&_};
-ghost use lib.Dec.{eqb};
-ghost use Rattle.marks.specs.Marks.{groupOf, marked, searched, known};
+ghost use mathlib.Core.Bool.{false};
+ghost use Rattle.marks.specs.Marks.{hasMark, searched, known};
 
 // Whether an address has one of the first pairs in a journal's places.
 fn is_listed(journal: &[u32], pairs: usize, address: u32) -> bool
@@ -25,7 +24,7 @@ fn is_listed(journal: &[u32], pairs: usize, address: u32) -> bool
 
 // Whether an address without a mark has a pair: only a page without a group can have one, and only once the groups are used up.
 pub fn is_unmarked_known(map: &[u32], journal: &[u32], pairs: usize, address: u32) -> bool
-    requires { ⌜ (not (eqb (groupOf (now map) address) 0) && marked (now map) address) ≡ false ⌝ }
+    requires { ⌜ hasMark (now map) address ≡ false ⌝ }
     ensures { λ r. ⌜ r ≡ known (now (map .entry)) (now (journal .entry)) pairs address ⌝ }
 {
     if load(map, (address / 1_024) as usize) != 0 {

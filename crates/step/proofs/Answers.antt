@@ -12,46 +12,68 @@ use Rattle.model.specs.Packed.{flagsOf, packedMachine}
 use Rattle.model.proofs.Cases.{cond-true, cond-false, tells}
 use Rattle.model.proofs.Packed.{unpacks}
 use Rattle.model.proofs.Runs.{runAt}
+use Rattle.marks.specs.declared.Noting.{Noting}
+use Rattle.marks.specs.Marks.{notingAt}
 use Rattle.step.specs.declared.Stepped.{Stepped}
-use Rattle.step.specs.Steps.{journaled, steppedOf, stoppedAt, Steps}
+use Rattle.step.specs.Keeping.{Keeps}
+use Rattle.step.specs.Steps.{stoppedAt, findsFull, steppedOf, steppedRegisters, Steps}
 
-module _ {regs memory : List ℕ} {bottom : ℕ} {journal : List ℕ} {pairs flags : ℕ} {regs′ memory′ journal′ : List ℕ} {s : Stepped}
-    (h : Steps regs memory bottom journal pairs flags regs′ memory′ journal′ s) where
+module _ {regs memory : List ℕ} {bottom : ℕ} {journal map : List ℕ} {pairs flags : ℕ} {regs′ memory′ journal′ map′ : List ℕ} {pairs′ : ℕ} {s : Stepped}
+    (h : Steps regs memory bottom journal map pairs flags regs′ memory′ journal′ map′ pairs′ s) where
   abbrev m : Machine
   m = packedMachine regs flags
 
   abbrev next : Ending
   next = I.nextEnding memory m
 
+  abbrev full : Bool
+  full = findsFull memory m bottom journal map pairs
+
   pub runs-on : {v : Bool} → I.goesOn (s .ending) ≡ v → I.nextRuns memory m ≡ v
   runs-on e = sym (tells (λ (s : Stepped). I.goesOn (s .ending)) (I.nextRuns memory m) refl refl (h .result)) ∙ e
 
   why : I.goesOn (s .ending) ≡ false → s .ending ≡ next
-  why e = ap (λ (s : Stepped). s .ending) (h .result ∙ sym (cond-false (steppedOf memory m bottom pairs) (stoppedAt next flags pairs) (runs-on e)))
+  why e = ap (λ (s : Stepped). s .ending) (h .result ∙ sym (cond-false (steppedOf memory m flags full) (stoppedAt next flags) (runs-on e)))
 
-  pub is-stepped : I.goesOn (s .ending) ≡ true → s ≡ steppedOf memory m bottom pairs
-  is-stepped e = h .result ∙ sym (cond-true (steppedOf memory m bottom pairs) (stoppedAt next flags pairs) (runs-on e))
+  -- what the code keeps of its store, where it runs
+  pub next-kept : I.goesOn (s .ending) ≡ true
+      → Keeps (I.nextMemory memory m bottom) journal map pairs (I.altersMemory memory m bottom) (I.addressB memory m) (I.valueB memory m) memory′ journal′ map′ (notingAt (s .full) pairs′)
+  next-kept e = rw (runs-on e) at (h .kept)
 
-  pub next-regs : I.goesOn (s .ending) ≡ true → regs′ ≡ I.nextMachine memory m .regs
-  next-regs e = h .registers ∙ sym (cond-true (I.nextMachine memory m .regs) regs (runs-on e))
+  -- where it runs and the journal is not full, it is done
+  module _ (e : I.goesOn (s .ending) ≡ true) (f : s .full ≡ false) where
+    free : full ≡ false
+    free = sym (ap (λ (n : Noting). n .full) (next-kept e .result)) ∙ f
 
-  pub next-flags : I.goesOn (s .ending) ≡ true → flagsOf (s .flags) ≡ I.nextMachine memory m .flags
-  next-flags e = ap (λ (s : Stepped). flagsOf (s .flags)) (is-stepped e) ∙ unpacks (I.nextMachine memory m .flags)
+    pub is-stepped : s ≡ steppedOf memory m flags false
+    is-stepped =
+        (h .result ∙ sym (cond-true (steppedOf memory m flags full) (stoppedAt next flags) (runs-on e))) ∙ ap (steppedOf memory m flags) free
 
-  pub next-words : I.goesOn (s .ending) ≡ true → memory′ ≡ I.nextMemory memory m bottom
-  next-words e = h .words ∙ sym (cond-true (I.nextMemory memory m bottom) memory (runs-on e))
+    pub next-regs : regs′ ≡ I.nextMachine memory m .regs
+    next-regs = (h .registers ∙ sym (cond-true (steppedRegisters memory m full) regs (runs-on e))) ∙ ap (steppedRegisters memory m) free
 
-  pub next-places : I.goesOn (s .ending) ≡ true → journal′ ≡ journaled memory m bottom journal pairs
-  next-places e = h .places ∙ sym (cond-true (journaled memory m bottom journal pairs) journal (runs-on e))
+    pub next-flags : flagsOf (s .flags) ≡ I.nextMachine memory m .flags
+    next-flags = ap (λ (s : Stepped). flagsOf (s .flags)) is-stepped ∙ unpacks (I.nextMachine memory m .flags)
 
-  pub same-regs : I.goesOn (s .ending) ≡ false → regs′ ≡ regs
-  same-regs e = h .registers ∙ sym (cond-false (I.nextMachine memory m .regs) regs (runs-on e))
+  -- where it does not run, nothing changes
+  module _ (e : I.goesOn (s .ending) ≡ false) where
+    pub same-regs : regs′ ≡ regs
+    same-regs = h .registers ∙ sym (cond-false (steppedRegisters memory m full) regs (runs-on e))
 
-  pub same-words : I.goesOn (s .ending) ≡ false → memory′ ≡ memory
-  same-words e = h .words ∙ sym (cond-false (I.nextMemory memory m bottom) memory (runs-on e))
+    none : Keeps memory journal map pairs false (I.addressB memory m) (I.valueB memory m) memory′ journal′ map′ (notingAt (s .full) pairs′)
+    none = rw (runs-on e) at (h .kept)
 
-  pub same-places : I.goesOn (s .ending) ≡ false → journal′ ≡ journal
-  same-places e = h .places ∙ sym (cond-false (journaled memory m bottom journal pairs) journal (runs-on e))
+    pub same-words : memory′ ≡ memory
+    same-words = none .words
+
+    pub same-places : journal′ ≡ journal
+    same-places = none .places
+
+    pub same-marks : map′ ≡ map
+    same-marks = none .marks
+
+    pub same-pairs : pairs′ ≡ pairs
+    same-pairs = ap (λ (n : Noting). n .pairs) (none .result)
 
   -- one turn of the definition
   module _ (board : Board) (p i c : ℕ) where

@@ -1,3 +1,4 @@
+mod Keeping
 mod Operands
 mod Steps
 pub mod Answers

@@ -1,30 +1,28 @@
 -- One instruction: its operands taken or the registers put back, its store, and the whole.
-use Prim.Native.Nat.{ℕ, _+_, _*_, _%_, _^_, _≤_, _<_}
+use Prim.Native.Nat.{ℕ, _≤_, _<_}
 use mathlib.Core.Path.{_≡_, refl, sym, ap, _∙_}
 use mathlib.Core.Bool.{Bool, true, false, not, _&&_, _||_, true≢false}
 use mathlib.Core.List.{List}
-use native.Mathlib.Omega.{arith}
-use lib.Dec.{leb}
 use lib.ListN.{length, set}
-use lib.Seq.{set-out}
-use borrow.Author.Tests.{leb-true}
-use Rattle.arithmetic.specs.Words.{asNumber}
 use Rattle.model.specs.declared.Operand.{Operand}
 use Rattle.model.specs.declared.Ending.{Ending}
 use Rattle.model.specs.declared.Ending.the-variants.{Finished, Outside, NoInstruction}
 use Rattle.model.specs.Words.{inc, isInstruction, wordAt, alterable}
 use Rattle.model.specs.Operands.{operandA, operandB, inMemory, registerWord, stepped, stepDown, operandPresent, setRegister}
 use Rattle.model.specs.Interpreter as I
-use Rattle.model.specs.Journal.{noted}
 use Rattle.model.specs.Packed.{packedMachine}
 use Rattle.model.proofs.Cases.{cond-true, cond-false, tells}
 use Rattle.model.proofs.Runs.{has-words}
 use Rattle.model.proofs.Operands.{restored, restored-pc, down-eq, fetch-here, fetch-gone}
 use Rattle.operands.specs.Stores.{StoresAbove}
+use Rattle.marks.specs.declared.Noting.{Noting}
+use Rattle.marks.specs.Marks.{notingAt}
+use Rattle.step.specs.Keeping.{Keeps}
+use Rattle.step.proofs.Keeping.{keeps-none}
 use Rattle.step.specs.declared.take.Taken.{Taken}
 use Rattle.step.specs.declared.fetch.Fetched.{Fetched}
 use Rattle.step.specs.declared.Stepped.{Stepped}
-use Rattle.step.specs.Steps.{takenOf, Takes, bare, nothing, fetchedOf, Fetches, notedIf, pairsIf, Notes, PutsWord, Finishes, stoppedAt, steppedOf, Steps}
+use Rattle.step.specs.Steps.{takenOf, Takes, bare, nothing, fetchedOf, Fetches, PutsWord, Finishes, stoppedAt, findsFull, Steps}
 
 -- an operand taken, in the definition's terms, and its registers
 took : {o q : Operand} {r s d : List ℕ} {t : Taken} (memory : List ℕ) → o ≡ q → r ≡ s → Takes o r memory d t
@@ -59,52 +57,20 @@ module _ {o : Operand} {r memory d : List ℕ} {t : Taken} (e : t ≡ takenOf o 
         registers = restored o old f g ∙ cond-false (stepDown o r) r (sym (there o r memory e f) ∙ h);
       }
 
--- ---- a pair, and the store
+-- ---- the store, with its pair
 
-module _ (done : Bool) (journal : List ℕ) (pairs address former : ℕ) {next : ℕ} (e : next ≡ (pairs + asNumber done) % 2 ^ 32) (small : pairs < 2 ^ 32) where
-  pairs-noted : next ≡ pairsIf done pairs
-  pairs-noted = e ∙ go done
-    where
-      go : (t : Bool) → (pairs + asNumber t) % 2 ^ 32 ≡ pairsIf t pairs
-      go true = refl
-      go false = omega arith
-
-  -- of no store, or past the journal's end
-  pub notes-none : (not done || leb (length journal) (2 * pairs)) ≡ true → Notes done journal pairs address former journal next
-  notes-none h = record { places = go done h; count = pairs-noted }
-    where
-      go : (t : Bool) → (not t || leb (length journal) (2 * pairs)) ≡ true → journal ≡ notedIf t journal pairs address former
-      go true p =
-          let gone = leb-true (length journal) (2 * pairs) p in
-          sym (ap (λ (l : List ℕ). set l (2 * pairs + 1) former) (set-out journal (2 * pairs) address gone) ∙ set-out journal (2 * pairs + 1) former (omega arith))
-      go false p = refl
-
-  pub notes-pair : (not done || leb (length journal) (2 * pairs)) ≡ false → {journal′ : List ℕ} → journal′ ≡ noted journal pairs address former
-      → Notes done journal pairs address former journal′ next
-  notes-pair h {journal′} q = record { places = go done h; count = pairs-noted }
-    where
-      go : (t : Bool) → (not t || leb (length journal) (2 * pairs)) ≡ false → journal′ ≡ notedIf t journal pairs address former
-      go true p = q
-      go false p = absurd (true≢false p)
-
-module _ {bottom : ℕ} {f : Fetched} {x pairs : ℕ} {regs memory journal : List ℕ} {t : Bool} where
-  pub puts-none : t ≡ false → PutsWord bottom t f x pairs regs memory journal regs memory journal pairs
-  puts-none e = record { registers = rw e; words = rw e; places = rw e; count = rw e }
+module _ {bottom : ℕ} {f : Fetched} {x : ℕ} {regs memory journal map : List ℕ} {pairs : ℕ} {t : Bool} where
+  pub puts-none : t ≡ false → PutsWord bottom t f x regs memory journal map pairs regs memory journal map (notingAt false pairs)
+  puts-none e = record { registers = rw e; kept = rw e (keeps-none memory journal map pairs false (f .address) (f .b) refl) }
 
   pub puts-memory : t ≡ true → inMemory (f .ob) ≡ true → {memory′ : List ℕ} {done : Bool} → StoresAbove bottom memory (f .address) x memory′ done
-      → {r : ℕ} {journal′ : List ℕ} → Notes done journal pairs (f .address) (f .b) journal′ r
-      → PutsWord bottom t f x pairs regs memory journal regs memory′ journal′ r
-  puts-memory e m s n =
-      record {
-        registers = rw (e, m);
-        words = rw (e, m) (s .words);
-        places = rw (e, m) (rw (s .done) at (n .places));
-        count = rw (e, m) (rw (s .done) at (n .count));
-      }
+      → {memory″ journal′ map′ : List ℕ} {n : Noting} → Keeps memory′ journal map pairs done (f .address) (f .b) memory″ journal′ map′ n
+      → PutsWord bottom t f x regs memory journal map pairs regs memory″ journal′ map′ n
+  puts-memory e m s k = record { registers = rw (e, m); kept = rw (e, m) (rw (s .words, s .done) at k) }
 
   pub puts-register : t ≡ true → inMemory (f .ob) ≡ false → {regs′ : List ℕ} → regs′ ≡ setRegister (f .ob) x regs
-      → PutsWord bottom t f x pairs regs memory journal regs′ memory journal pairs
-  puts-register e m q = record { registers = rw (e, m) q; words = rw (e, m); places = rw (e, m); count = rw (e, m) }
+      → PutsWord bottom t f x regs memory journal map pairs regs′ memory journal map (notingAt false pairs)
+  puts-register e m q = record { registers = rw (e, m) q; kept = rw (e, m) (keeps-none memory journal map pairs false (f .address) (f .b) refl) }
 
 -- ---- the fetch
 
@@ -196,39 +162,37 @@ put-where-present true true false here e = refl
 put-where-present true false above here e = refl
 put-where-present false mem above here e = refl
 
-abbrev withPairs : ℕ → Stepped → Stepped
-withPairs n s = record { ending = s .ending; flags = s .flags; oa = s .oa; ob = s .ob; stored = s .stored; pairs = n }
-
 module _ {regs memory r1 : List ℕ} {f : Fetched} (h : Fetches regs memory r1 f) where
   -- the fetch says whether the instruction runs, and why not
   runs-on : {v : Bool} → I.goesOn (f .ending) ≡ v → I.nextRuns memory (bare regs) ≡ v
   runs-on e = sym (tells (λ (f : Fetched). I.goesOn (f .ending)) (I.nextRuns memory (bare regs)) refl refl (h .result)) ∙ e
 
-  module _ {bottom : ℕ} {journal : List ℕ} {pairs flags : ℕ} {s : Stepped} where
-    pub step-stops : {v : Bool} → v ≡ I.goesOn (f .ending) → v ≡ false → s ≡ stoppedAt (f .ending) flags pairs
-        → Steps regs memory bottom journal pairs flags r1 memory journal s
+  module _ {bottom : ℕ} {journal map : List ℕ} {pairs flags : ℕ} where
+    pub step-stops : {v : Bool} → v ≡ I.goesOn (f .ending) → v ≡ false → {s : Stepped} → s ≡ stoppedAt (f .ending) flags
+        → Steps regs memory bottom journal map pairs flags r1 memory journal map pairs s
     step-stops d e p =
         let t = runs-on (sym d ∙ e) in
         let why : f .ending ≡ next regs memory =
         ap (λ (f : Fetched). f .ending) (h .result ∙ sym (cond-false (fetchedOf regs memory) (nothing (next regs memory)) t)) in
         record {
-          result = (p ∙ ap (λ (e : Ending). stoppedAt e flags pairs) why) ∙ cond-false _ (stoppedAt (next regs memory) flags pairs) t;
+          result = (p ∙ ap (λ (e : Ending). stoppedAt e flags) why) ∙ cond-false _ (stoppedAt (next regs memory) flags) t;
           registers = h .registers ∙ sym (cond-false (I.regsB memory (bare regs)) regs t) ∙ cond-false _ regs t;
-          words = cond-false _ memory t;
-          places = cond-false _ journal t;
+          kept = rw (t, p) (keeps-none memory journal map pairs false (I.addressB memory (bare regs)) (I.valueB memory (bare regs)) refl);
         }
 
-    pub stepped-all : {v : Bool} → v ≡ I.goesOn (f .ending) → v ≡ true → {r2 memory′ journal′ : List ℕ}
-        → Finishes r1 memory bottom journal pairs flags f r2 memory′ journal′ s → Steps regs memory bottom journal pairs flags r2 memory′ journal′ s
-    stepped-all d e g =
+    pub stepped-all : {v : Bool} → v ≡ I.goesOn (f .ending) → v ≡ true → {r2 memory′ journal′ map′ : List ℕ} {pairs′ : ℕ} {s : Stepped}
+        → Finishes r1 memory bottom journal map pairs flags f r2 memory′ journal′ map′ pairs′ s
+        → Steps regs memory bottom journal map pairs flags r2 memory′ journal′ map′ pairs′ s
+    stepped-all d e {s = s} g =
         let m = packedMachine regs flags in
         let t = runs-on (sym d ∙ e) in
         let p : f ≡ fetchedOf regs memory = h .result ∙ sym (cond-true (fetchedOf regs memory) (nothing (next regs memory)) t) in
         let q : r1 ≡ I.regsB memory (bare regs) = h .registers ∙ sym (cond-true (I.regsB memory (bare regs)) regs t) in
         let done = put-where-present (I.isStored memory m) (inMemory (I.opB memory m)) (alterable bottom (I.addressB memory m)) _ (has-words memory (bare regs) t .second) in
+        let k = rw (p, done) at (g .kept) in
+        let is : s .full ≡ findsFull memory m bottom journal map pairs = ap (λ (n : Noting). n .full) (k .result) in
         record {
-          result = (g .result ∙ (rw p) ∙ ap (λ (t : Bool). withPairs (pairsIf t pairs) (steppedOf memory m bottom pairs)) done) ∙ cond-true _ (stoppedAt (next regs memory) flags pairs) t;
-          registers = (g .registers ∙ rw (p, q)) ∙ cond-true _ regs t;
-          words = (g .words ∙ rw p) ∙ cond-true _ memory t;
-          places = (g .places ∙ (rw p) ∙ ap (λ (t : Bool). notedIf t journal pairs (I.addressB memory m) (I.valueB memory m)) done) ∙ cond-true _ journal t;
+          result = (g .result ∙ rw (p, is)) ∙ cond-true _ (stoppedAt (next regs memory) flags) t;
+          registers = (g .registers ∙ rw (p, q, is)) ∙ cond-true _ regs t;
+          kept = rw t k;
         }

@@ -6,8 +6,24 @@ use super::unit::unit_of;
 use effects::flags_after_packed;
 use effects::stores;
 use model::Ending;
+use model::Operand;
 use registers::step_up;
-ghost use Rattle.step.specs.Steps.{Finishes};
+ghost use mathlib.Core.Path.{_≡_};
+ghost use Rattle.step.specs.Steps.{steppedWith, Finishes};
+
+// An instruction that ran, or whose store the journal had no room for.
+fn stepped(flags: u32, oa: Operand, ob: Operand, stored: bool, full: bool) -> Stepped
+    ensures { λ r. ⌜ r ≡ steppedWith flags oa ob stored full ⌝ }
+{
+    Stepped {
+        ending: Ending::Finished,
+        flags,
+        oa,
+        ob,
+        stored,
+        full,
+    }
+}
 
 // The storing condition is read from the old flags, and the new ones are made before the store, so that little is carried past it.
 pub fn finish(
@@ -15,11 +31,12 @@ pub fn finish(
     memory: &mut [u32],
     bottom: u32,
     journal: &mut [u32],
-    pairs: u32,
+    map: &mut [u32],
+    pairs: &mut usize,
     flags: u32,
     f: Fetched,
 ) -> Stepped
-    ensures { λ r. ⌜ Finishes (now (regs .entry)) (now (memory .entry)) bottom (now (journal .entry)) pairs flags f (now (regs .exit)) (now (memory .exit)) (now (journal .exit)) r ⌝ }
+    ensures { λ r. ⌜ Finishes (now (regs .entry)) (now (memory .entry)) bottom (now (journal .entry)) (now (map .entry)) (now (pairs .entry)) flags f (now (regs .exit)) (now (memory .exit)) (now (journal .exit)) (now (map .exit)) (now (pairs .exit)) r ⌝ }
 {
     let word = f.word;
     let oa = f.oa;
@@ -27,15 +44,22 @@ pub fn finish(
     let stored = stores(word, flags);
     let out = unit_of(word, flags, f.a, f.b);
     let after = flags_after_packed(word, flags, out);
-    let noted = put(stored, f, out.result, pairs, regs, memory, bottom, journal);
+    let full = put(
+        stored,
+        f,
+        out.result,
+        regs,
+        memory,
+        bottom,
+        journal,
+        map,
+        pairs,
+    );
+    // Told before the steps up, and with the old flags, which makes the loop quicker; the machine is the start's in the end.
+    if full {
+        return stepped(flags, oa, ob, stored, true);
+    }
     step_up(oa, regs);
     step_up(ob, regs);
-    Stepped {
-        ending: Ending::Finished,
-        flags: after,
-        oa,
-        ob,
-        stored,
-        pairs: noted,
-    }
+    stepped(after, oa, ob, stored, false)
 }

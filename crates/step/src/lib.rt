@@ -1,6 +1,7 @@
 // One instruction of the machine, in the order (i) to (vi) of document 01.
 mod fetch;
 mod finish;
+mod keep;
 mod put;
 mod take;
 mod unit;
@@ -14,7 +15,7 @@ ghost use Rattle.model.specs.Interpreter.{goesOn};
 ghost use Rattle.step.specs.Steps.{stoppedAt, Steps};
 
 // What one instruction leaves: the flags, packed; its operands as decoded and whether its result was stored, which decide its clocks and
-// accesses; the pairs in the journal.
+// accesses; whether the journal had no room for its store. Where it had none, memory and journal are as before, and the registers have gone on.
 // Where it did not run, `ending` says why, and nothing has changed.
 pub struct Stepped {
     pub ending: Ending,
@@ -22,7 +23,7 @@ pub struct Stepped {
     pub oa: Operand,
     pub ob: Operand,
     pub stored: bool,
-    pub pairs: u32,
+    pub full: bool,
 }
 
 // Whether a run that ended so goes on with the next instruction.
@@ -36,8 +37,8 @@ pub fn goes_on(ending: Ending) -> bool
     }
 }
 
-fn stopped(ending: Ending, flags: u32, pairs: u32) -> Stepped
-    ensures { λ r. ⌜ r ≡ stoppedAt ending flags pairs ⌝ }
+fn stopped(ending: Ending, flags: u32) -> Stepped
+    ensures { λ r. ⌜ r ≡ stoppedAt ending flags ⌝ }
 {
     Stepped {
         ending,
@@ -45,25 +46,27 @@ fn stopped(ending: Ending, flags: u32, pairs: u32) -> Stepped
         oa: Operand::Direct(0),
         ob: Operand::Direct(0),
         stored: false,
-        pairs,
+        full: false,
     }
 }
 
-// A store to memory that can alter it is noted as a pair of address and former word, where the journal has room for it.
+// The pair of a store that can alter memory is noted where its address has none yet: the journal's pairs are counted in `pairs`, and the map tells
+// them. A run without a journal lends a map of no words.
 pub fn step(
     regs: &mut [u32; 8],
     memory: &mut [u32],
     bottom: u32,
     journal: &mut [u32],
-    pairs: u32,
+    map: &mut [u32],
+    pairs: &mut usize,
     flags: u32,
 ) -> Stepped
-    ensures { λ r. ⌜ Steps (now (regs .entry)) (now (memory .entry)) bottom (now (journal .entry)) pairs flags (now (regs .exit)) (now (memory .exit)) (now (journal .exit)) r ⌝ }
+    ensures { λ r. ⌜ Steps (now (regs .entry)) (now (memory .entry)) bottom (now (journal .entry)) (now (map .entry)) (now (pairs .entry)) flags (now (regs .exit)) (now (memory .exit)) (now (journal .exit)) (now (map .exit)) (now (pairs .exit)) r ⌝ }
 {
     let f = fetch(regs, &*memory);
     let ending = f.ending;
     if goes_on(ending) {
-        return finish(regs, memory, bottom, journal, pairs, flags, f);
+        return finish(regs, memory, bottom, journal, map, pairs, flags, f);
     }
-    stopped(ending, flags, pairs)
+    stopped(ending, flags)
 }

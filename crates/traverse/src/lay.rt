@@ -17,12 +17,13 @@ fn lay_one(
     ensures { λ r. ⌜ LaysOne (now (memory .entry)) (now (journal .entry)) (now (map .entry)) pairs address word (now (memory .exit)) (now (journal .exit)) (now (map .exit)) r ⌝ }
 {
     let at = address as usize;
-    let n = note(map, journal, pairs, address, load(&*memory, at));
-    if n.full {
-        return n;
+    let mut noted = pairs;
+    let full = note(map, journal, &mut noted, address, load(&*memory, at));
+    if full {
+        return Noting { full, pairs: noted };
     }
     store(memory, at, word);
-    n
+    Noting { full, pairs: noted }
 }
 
 // All words, from a place on, after the journal's pairs so far.

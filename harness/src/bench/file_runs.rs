@@ -1,7 +1,7 @@
 //! File runs against plain runs of the same length, finished and undone.
 
-use super::measure::{best, time, Task};
-use super::table::Table;
+use super::against::{Against, Pair};
+use super::measure::{time, Task};
 use super::workload::{
     generated, register_loop, stacking_above_bottom, stacking_loop, stacking_outside, Workload,
 };
@@ -12,11 +12,8 @@ use std::cell::RefCell;
 /// Instructions of each file, with a pair for each of them.
 const COUNT: u32 = 65_536;
 
-/// Each row of times has one for each contender.
-type Row = (String, Vec<f64>);
-
 /// The file runs, and plain runs of the same programs.
-pub fn file_runs(sizes: Sizes) -> (Table, Table) {
+pub fn file_runs(sizes: Sizes) -> Against {
     let rows = [
         ("finished", register_loop()),
         ("finished", stacking_loop()),
@@ -24,18 +21,14 @@ pub fn file_runs(sizes: Sizes) -> (Table, Table) {
         ("undone", stacking_outside()),
         ("finished", stacking_above_bottom()),
     ];
-    let rows = rows.map(|(ending, workload)| measure(sizes, ending, &workload));
-    let (files, plain): (Vec<Row>, Vec<Row>) = rows.into_iter().unzip();
-    let table = |title: &str, rows| Table {
-        title: title.into(),
-        unit: "instruction",
-        rows,
-    };
-    (table("File run", files), table("plain run", plain))
+    let pairs = rows.iter();
+    Against::new(
+        "File run",
+        pairs.map(|(ending, workload)| measure(sizes, ending, workload)),
+    )
 }
 
-/// All contenders' file runs and plain runs take turns.
-fn measure(sizes: Sizes, ending: &str, workload: &Workload) -> (Row, Row) {
+fn measure(sizes: Sizes, ending: &str, workload: &Workload) -> Pair {
     let mut journal = vec![1; 2 * COUNT as usize];
     let journal = RefCell::new(&mut journal[..]);
     let files = CONTENDERS.iter().map(|contender| -> Task {
@@ -45,11 +38,8 @@ fn measure(sizes: Sizes, ending: &str, workload: &Workload) -> (Row, Row) {
     let plain = CONTENDERS
         .iter()
         .map(|contender| -> Task { Box::new(move || plain_run(contender, workload)) });
-    let mut tasks: Vec<Task> = files.chain(plain).collect();
-    let mut files = best(sizes.rounds, &mut tasks);
-    let plain = files.split_off(CONTENDERS.len());
     let name = format!("{}, {ending}", workload.name);
-    ((name.clone(), files), (name, plain))
+    Pair::measure(name, sizes.rounds, files, plain)
 }
 
 fn file_run(contender: &Contender, workload: &Workload, journal: &mut [u32]) -> f64 {

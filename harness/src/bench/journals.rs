@@ -1,6 +1,7 @@
 //! File runs that store to the same addresses again and again (CR 11): to few and to many,
 //! side by side and all over the longest memory, against plain runs of the same programs.
 
+use super::against::{Against, Pair};
 use super::measure::{best, time, Task};
 use super::table::Table;
 use super::workload::{stacking_loop, storing_loop, Workload};
@@ -17,9 +18,6 @@ const ROUNDS_PER_ROUND: u64 = 5;
 
 /// The reference copies the memory in each call, so that it has fewer of them.
 const CALLS_PER_COPY: u64 = 500;
-
-/// Each row of times has one for each contender.
-type Row = (String, Vec<f64>);
 
 /// Addresses and the words from one to the next.
 const SPREADS: [(u32, u32); 7] = [
@@ -42,23 +40,14 @@ pub fn measured() -> impl Iterator<Item = (Workload, usize)> {
 }
 
 /// The file runs, and plain runs of the same programs.
-pub fn journals(sizes: Sizes) -> (Table, Table) {
-    let rows = measured().map(|(workload, pairs)| measure(sizes, workload, pairs));
-    let (files, plain): (Vec<Row>, Vec<Row>) = rows.unzip();
-    let table = |title: &str, rows| Table {
-        title: title.into(),
-        unit: "instruction",
-        rows,
-    };
-    (
-        table("Journal of distinct addresses", files),
-        table("plain run", plain),
-    )
+pub fn journals(sizes: Sizes) -> Against {
+    let pairs = measured().map(|(workload, pairs)| measure(sizes, workload, pairs));
+    Against::new("Journal of distinct addresses", pairs)
 }
 
-/// All contenders' file runs and plain runs take turns on one memory, as a copy would take
-/// longer than they do; each begins again at its first address.
-fn measure(sizes: Sizes, workload: Workload, pairs: usize) -> (Row, Row) {
+/// The runs take turns on one memory, as a copy would take longer than they do; each begins
+/// again at its first address.
+fn measure(sizes: Sizes, workload: Workload, pairs: usize) -> Pair {
     let lent = RefCell::new((workload.memory, vec![1; 2 * pairs]));
     let machine = workload.machine;
     let files = CONTENDERS.iter().map(|contender| -> Task {
@@ -72,10 +61,8 @@ fn measure(sizes: Sizes, workload: Workload, pairs: usize) -> (Row, Row) {
         let lent = &lent;
         Box::new(move || plain_run(contender, &mut lent.borrow_mut().0, machine))
     });
-    let mut tasks: Vec<Task> = files.chain(plain).collect();
-    let mut files = best(sizes.rounds.div_ceil(ROUNDS_PER_ROUND), &mut tasks);
-    let plain = files.split_off(CONTENDERS.len());
-    ((workload.name.clone(), files), (workload.name, plain))
+    let rounds = sizes.rounds.div_ceil(ROUNDS_PER_ROUND);
+    Pair::measure(workload.name, rounds, files, plain)
 }
 
 fn file_run(

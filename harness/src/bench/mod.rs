@@ -1,5 +1,6 @@
 //! The proved emulator's speed against the reference emulator, tuned Rust and C.
 
+mod against;
 pub mod agreement;
 pub mod calls;
 pub mod file_runs;

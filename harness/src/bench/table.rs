@@ -33,17 +33,6 @@ impl Table {
             row(name, times.iter().map(|time| format!("{time:.2}")));
         }
     }
-
-    /// Each emulator's times against its own in `plain`, row by row.
-    pub fn print_against(&self, plain: &Table) {
-        println!("\n### {} against {}\n", self.title, plain.title);
-        let names = CONTENDERS.iter().map(|c| c.name.to_string());
-        heading("time per instruction", names);
-        for ((name, times), (_, plain)) in self.rows.iter().zip(&plain.rows) {
-            let ratios = times.iter().zip(plain).map(|(time, plain)| time / plain);
-            row(name, ratios.map(|ratio| format!("{ratio:.2}")));
-        }
-    }
 }
 
 pub fn heading(first: &str, others: impl Iterator<Item = String>) {

@@ -39,12 +39,12 @@ fn main() {
     agreement::check(starts);
     println!("All four agree on {starts} generated starts and on the measured programs.");
     println!("Best of {} rounds in which they take turns.", sizes.rounds);
-    let (files, plain) = file_runs::file_runs(sizes);
-    let (journals, plain_storing) = journals::journals(sizes);
+    let files = file_runs::file_runs(sizes);
+    let journals = journals::journals(sizes);
     let tables = [
         runs::interpreter(sizes),
-        files,
-        journals,
+        files.files(),
+        journals.files(),
         journals::calls(sizes),
         traverses::traverses(sizes),
         runs::gate_machine(sizes),
@@ -53,8 +53,8 @@ fn main() {
     ];
     println!("\n## Ratios");
     tables.iter().for_each(|table| table.print_ratios());
-    tables[1].print_against(&plain);
-    tables[2].print_against(&plain_storing);
+    files.print();
+    journals.print();
     println!("\n## Times");
     tables.iter().for_each(|table| table.print_times());
     calls::calls(sizes);

@@ -36,10 +36,8 @@ begins-at-requires : tie.Need-begins-at-requires Inv-loop μ-loop
 begins-at-requires c κs = search needs
 
 loop-holds : tie.Need-loop-holds Inv-loop μ-loop
-loop-holds c = begins (begin-fits _ _ (c .begins-at .ensures))
-
-slice-aggregate-step : tie.Need-slice-aggregate-step Inv-loop μ-loop
-slice-aggregate-step c = search needs
+loop-holds c =
+    begins (begin-fits _ _ (c .begins-at .ensures))
 
 step-requires : tie.Need-step-requires Inv-loop μ-loop
 step-requires c κs = search needs
@@ -52,93 +50,89 @@ run-end-requires c κs = search needs
 
 same-length : tie.Need-same-length Inv-loop μ-loop
 same-length c =
-    let stepped = c .before .before .before .before .before .before in
-    stepped .step .kept .1 .0 ∙ stepped .before .before .before .before .before .loop .inv .words
+    let stepped = c .before .before .before .before .before .before .before .before .before in
+    stepped .step .kept .1 .0 ∙ stepped .before .before .before .before .before .before .before .loop .inv .words
 
 same-length-2 : tie.Need-same-length-2 Inv-loop μ-loop
-same-length-2 c = c .before .before .before .before .before .before .before .before .before .before .before .loop .inv .places
+same-length-2 c =
+    let stepped = c .before .before .before .before .before .before .before .before .before in
+    stepped .step .kept .1 .1 .1 .0 ∙ stepped .before .before .before .before .before .before .before .loop .inv .places
 
 same-length-3 : tie.Need-same-length-3 Inv-loop μ-loop
-same-length-3 c = c .before .before .before .before .before .before .before .before .before .before .before .loop .inv .marks
+same-length-3 c =
+    let stepped = c .before .before .before .before .before .before .before .before .before in
+    stepped .step .kept .1 .1 .1 .1 .0 ∙ stepped .before .before .before .before .before .before .before .loop .inv .marks
 
 returns : tie.Need-returns Inv-loop μ-loop
 returns c =
-    let stepped = c .before .before .before .before .before .before in
-    let entered = stepped .before .before .before .before in
+    let stepped = c .before .before .before .before .before .before .before .before .before in
+    let entered = stepped .before .before .before .before .before .before in
     from-start (entered .before .before .before .packed .ensures) (entered .before .before .begins-at .ensures)
     (stopped (entered .before .loop .inv) (entered .loop-test .taken) (stepped .step .ensures)
     (sym (c .before .before .goes-on .ensures) ∙ not-true _ (c .before .if1 .taken)) (c .run-end .ensures))
-
-array-read-keep : tie.Need-array-read-keep Inv-loop μ-loop
-array-read-keep c = search needs
-
-array-read-keep-2 : tie.Need-array-read-keep-2 Inv-loop μ-loop
-array-read-keep-2 c = search needs
-
-keep-requires : tie.Need-keep-requires Inv-loop μ-loop
-keep-requires c κs = search needs
 
 full-end-requires : tie.Need-full-end-requires Inv-loop μ-loop
 full-end-requires c κs = search needs
 
 same-length-4 : tie.Need-same-length-4 Inv-loop μ-loop
 same-length-4 c =
-    let kept = c .before .before .before .before .before .before .before .before in
-    let stepped = kept .before .before .before .before .before .before .before .before .before .before in
-    kept .keep .kept .0 ∙ stepped .step .kept .1 .0 ∙ stepped .before .before .before .before .before .loop .inv .words
+    let stepped = c .before .before .before .before .before .before .before .before .before .before in
+    stepped .step .kept .1 .0 ∙ stepped .before .before .before .before .before .before .before .loop .inv .words
 
 same-length-5 : tie.Need-same-length-5 Inv-loop μ-loop
 same-length-5 c =
-    let kept = c .before .before .before .before .before .before .before .before in
-    let stepped = kept .before .before .before .before .before .before .before .before .before .before in
-    kept .keep .kept .1 .0 ∙ stepped .before .before .before .before .before .loop .inv .places
+    let stepped = c .before .before .before .before .before .before .before .before .before .before in
+    stepped .step .kept .1 .1 .1 .0 ∙ stepped .before .before .before .before .before .before .before .loop .inv .places
 
 same-length-6 : tie.Need-same-length-6 Inv-loop μ-loop
 same-length-6 c =
-    let kept = c .before .before .before .before .before .before .before .before in
-    let stepped = kept .before .before .before .before .before .before .before .before .before .before in
-    kept .keep .kept .1 .1 .0 ∙ stepped .before .before .before .before .before .loop .inv .marks
+    let stepped = c .before .before .before .before .before .before .before .before .before .before in
+    stepped .step .kept .1 .1 .1 .1 .0 ∙ stepped .before .before .before .before .before .before .before .loop .inv .marks
 
 returns-2 : tie.Need-returns-2 Inv-loop μ-loop
 returns-2 c =
-    let kept = c .before .before .before .before .before .before .before .before in
-    let stepped = kept .before .before .before .before .before .before .before .before .before .before in
-    let entered = stepped .before .before .before .before in
+    let stepped = c .before .before .before .before .before .before .before .before .before .before in
+    let entered = stepped .before .before .before .before .before .before in
     from-start (entered .before .before .before .packed .ensures) (entered .before .before .begins-at .ensures)
-    (full (entered .before .loop .inv) (entered .loop-test .taken) (stepped .step .ensures) (sym (kept .before .before .before .before .before .before .goes-on .ensures) ∙ not-false _ (kept .before .before .before .before .before .if1 .left))
-    (kept .keep .ensures) (c .before .if2 .taken) (sym (same-start (entered .before .before .before .packed .ensures))) (c .full-end .ensures))
+    (full (entered .before .loop .inv) (entered .loop-test .taken) (stepped .step .ensures)
+    (sym (c .before .before .before .goes-on .ensures) ∙ not-false _ (c .before .before .if1 .left)) (c .before .if2 .taken)
+    (sym (same-start (entered .before .before .before .packed .ensures))) (c .full-end .ensures))
 
 clocked-requires : tie.Need-clocked-requires Inv-loop μ-loop
 clocked-requires c κs =
-    let turned = c .before .before .before .before .before .before .before .before .before .before .before .before .before .before .before .before .before .before .before .before .before in
+    let turned = c .before .before .before .before .before .before .before .before .before .before .before .before .before .before .before in
     (fits-at turned, turned .before .loop .inv .fits)
 
 add-i : tie.Need-add-i Inv-loop μ-loop
-add-i c = omega (arith, few-at (c .before .before .before .before .before .before .before .before .before .before .before .before .before .before .before .before .before .before .before .before .before .before))
+add-i c =
+    omega (arith, few-at (c .before .before .before .before .before .before .before .before .before .before .before .before .before .before .before .before))
 
 loop-less : tie.Need-loop-less Inv-loop μ-loop
-loop-less c = omega arith
+loop-less c =
+    omega arith
 
 loop-again : tie.Need-loop-again Inv-loop μ-loop
 loop-again c =
-    let kept = c .before .before .before .before .before .before .before .before in
-    let stepped = kept .before .before .before .before .before .before .before .before .before .before in
-    let entered = stepped .before .before .before .before in
-    turn (entered .before .loop .inv) (entered .loop-test .taken) (stepped .step .ensures) (sym (kept .before .before .before .before .before .before .goes-on .ensures) ∙ not-false _ (kept .before .before .before .before .before .if1 .left))
-    (kept .keep .ensures) (c .before .if2 .left) (c .clocked .ensures)
-    (kept .keep .kept .0 ∙ stepped .step .kept .1 .0) (kept .keep .kept .1 .0) (kept .keep .kept .1 .1 .0)
+    let stepped = c .before .before .before .before .before .before .before .before .before .before in
+    let entered = stepped .before .before .before .before .before .before in
+    turn (entered .before .loop .inv) (entered .loop-test .taken) (stepped .step .ensures)
+    (sym (c .before .before .before .goes-on .ensures) ∙ not-false _ (c .before .before .if1 .left)) (c .before .if2 .left) (c .clocked .ensures)
+    (stepped .step .kept .1 .0) (stepped .step .kept .1 .1 .1 .0) (stepped .step .kept .1 .1 .1 .1 .0)
 
 run-end-requires-2 : tie.Need-run-end-requires-2 Inv-loop μ-loop
 run-end-requires-2 c κs = search needs
 
 same-length-7 : tie.Need-same-length-7 Inv-loop μ-loop
-same-length-7 c = c .before .before .loop .inv .words
+same-length-7 c =
+    c .before .before .loop .inv .words
 
 same-length-8 : tie.Need-same-length-8 Inv-loop μ-loop
-same-length-8 c = c .before .before .loop .inv .places
+same-length-8 c =
+    c .before .before .loop .inv .places
 
 same-length-9 : tie.Need-same-length-9 Inv-loop μ-loop
-same-length-9 c = c .before .before .loop .inv .marks
+same-length-9 c =
+    c .before .before .loop .inv .marks
 
 returns-3 : tie.Need-returns-3 Inv-loop μ-loop
 returns-3 c =
@@ -155,7 +149,6 @@ engine-spec =
     packed-requires
     begins-at-requires
     loop-holds
-    slice-aggregate-step
     step-requires
     goes-on-requires
     run-end-requires
@@ -163,9 +156,6 @@ engine-spec =
     same-length-2
     same-length-3
     returns
-    array-read-keep
-    array-read-keep-2
-    keep-requires
     full-end-requires
     same-length-4
     same-length-5

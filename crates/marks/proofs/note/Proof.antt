@@ -14,12 +14,12 @@ returns : tie.Need-returns
 returns c =
     let asked = c .before in
     let first = asked .before .before .before .before .args in
-    let known = known-marked (first .map .now) (first .journal .now) (first .pairs) (first .address) (sym (asked .is-marked .ensures) ∙ c .if1 .taken) in
-    notes-known (first .map .now) (first .journal .now) (first .pairs) (first .address) (first .former) known
+    let known = known-marked (first .map .now) (first .journal .now) (first .pairs .now) (first .address) (sym (asked .is-marked .ensures) ∙ c .if1 .taken) in
+    notes-known (first .map .now) (first .journal .now) (first .pairs .now) (first .address) (first .former) known
 
 note-new-requires : tie.Need-note-new-requires
 note-new-requires c κs =
-    let tested = c .before .before in
+    let tested = c .before .before .before in
     sym (tested .before .is-marked .ensures) ∙ tested .if1 .left
 
 same-length-2 : tie.Need-same-length-2

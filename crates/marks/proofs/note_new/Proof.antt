@@ -18,8 +18,8 @@ same-length-2 c = search needs
 returns : tie.Need-returns
 returns c =
     let asked = c .before in
-    let first = asked .before .before .before .before .before .args in
-    notes-known (first .map .now) (first .journal .now) (first .pairs) (first .address) (first .former) (sym (asked .is-unmarked-known .ensures) ∙ c .if1 .taken)
+    let first = asked .before .before .before .before .before .before .args in
+    notes-known (first .map .now) (first .journal .now) (first .pairs .now) (first .address) (first .former) (sym (asked .is-unmarked-known .ensures) ∙ c .if1 .taken)
 
 same-length-3 : tie.Need-same-length-3
 same-length-3 c = search needs
@@ -30,9 +30,9 @@ same-length-4 c = search needs
 returns-2 : tie.Need-returns-2
 returns-2 c =
     let asked = c .before .before in
-    let first = asked .before .before .before .before .before .args in
+    let first = asked .before .before .before .before .before .before .args in
     let new = sym (asked .is-unmarked-known .ensures) ∙ c .before .if1 .left in
-    notes-full (first .map .now) (first .journal .now) (first .pairs) (first .address) (first .former) new (c .if2 .taken)
+    notes-full (first .map .now) (first .journal .now) (first .pairs .now) (first .address) (first .former) new (c .if2 .taken)
 
 mul-journal : tie.Need-mul-journal
 mul-journal c = search needs
@@ -58,8 +58,8 @@ slice-write-journal-2 c = simp length-set (omega arith)
 mark-requires : tie.Need-mark-requires
 mark-requires c κs = search needs
 
-add-t11 : tie.Need-add-t11
-add-t11 c = search needs
+add-pairs : tie.Need-add-pairs
+add-pairs c = search needs
 
 same-length-5 : tie.Need-same-length-5
 same-length-5 c = search needs
@@ -72,9 +72,9 @@ returns-3 c =
     let done = c .before .before in
     let tested = done .before .before in
     let asked = tested .before .before in
-    let first = asked .before .before .before .before .before .args in
+    let first = asked .before .before .before .before .before .before .args in
     let new = sym (asked .is-unmarked-known .ensures) ∙ tested .before .if1 .left in
-    rw (done .mark .ensures) (notes-new (first .map .now) (first .journal .now) (first .pairs) (first .address) (first .former) new (tested .if2 .left))
+    rw (done .mark .ensures) (notes-new (first .map .now) (first .journal .now) (first .pairs .now) (first .address) (first .former) new (tested .if2 .left))
 
 pub note-new-spec : {M : Type 1} → statement M
 note-new-spec =
@@ -95,7 +95,7 @@ note-new-spec =
     mul-journal-4
     slice-write-journal-2
     mark-requires
-    add-t11
+    add-pairs
     same-length-5
     same-length-6
     returns-3)

@@ -18,16 +18,19 @@ same-length c = search needs
 same-length-2 : tie.Need-same-length-2
 same-length-2 c = search needs
 
+same-length-3 : tie.Need-same-length-3
+same-length-3 c = search needs
+
 returns : tie.Need-returns
 returns c =
-    let taken = c .before .before .before .before .before .before .before .before in
-    stepped-all (taken .before .before .fetch .ensures) (taken .before .goes-on .ensures) (taken .if1 .taken) (c .before .before .before .before .finish .ensures)
+    let taken = c .before .before .before .before .before .before .before .before .before .before .before .before in
+    stepped-all (taken .before .before .fetch .ensures) (taken .before .goes-on .ensures) (taken .if1 .taken) (c .before .before .before .before .before .before .finish .ensures)
 
 stopped-requires : tie.Need-stopped-requires
 stopped-requires c κs = search needs
 
-same-length-3 : tie.Need-same-length-3
-same-length-3 c = search needs
+same-length-4 : tie.Need-same-length-4
+same-length-4 c = search needs
 
 returns-2 : tie.Need-returns-2
 returns-2 c =
@@ -43,7 +46,8 @@ step-spec =
     finish-requires
     same-length
     same-length-2
+    same-length-3
     returns
     stopped-requires
-    same-length-3
+    same-length-4
     returns-2)

@@ -14,8 +14,8 @@ in-memory-requires c κs = search needs
 store-above-requires : tie.Need-store-above-requires
 store-above-requires c κs = search needs
 
-note-requires : tie.Need-note-requires
-note-requires c κs = search needs
+keep-requires : tie.Need-keep-requires
+keep-requires c κs = search needs
 
 same-length : tie.Need-same-length
 same-length c = search needs
@@ -23,13 +23,16 @@ same-length c = search needs
 same-length-2 : tie.Need-same-length-2
 same-length-2 c = search needs
 
+same-length-3 : tie.Need-same-length-3
+same-length-3 c = search needs
+
 returns-2 : tie.Need-returns-2
 returns-2 c =
-    let noted = c .before .before in
-    let stored = noted .before .before .before .before in
+    let kept = c .before .before .before .before .before .before in
+    let stored = kept .before .before .before .before .before .before .before in
     let there = stored .before .before in
     puts-memory (not-false _ (there .before .before .if1 .left)) (sym (there .before .in-memory .ensures) ∙ there .if2 .taken)
-    (stored .store-above .ensures) (noted .note .ensures)
+    (stored .store-above .ensures) (kept .keep .ensures)
 
 set-register-requires : tie.Need-set-register-requires
 set-register-requires c κs = search needs
@@ -47,9 +50,10 @@ put-spec =
     returns
     in-memory-requires
     store-above-requires
-    note-requires
+    keep-requires
     same-length
     same-length-2
+    same-length-3
     returns-2
     set-register-requires
     returns-3)

@@ -7,8 +7,9 @@ use lib.Dec.{eqb}
 use lib.ListN.{length}
 use Rattle.model.specs.Words.{storeWord}
 use Rattle.marks.specs.declared.Noting.{Noting}
-use Rattle.marks.specs.Marks.{known, withMark, notingAt, Notes}
-use Rattle.engine.specs.Keeping.{noRoom, Keeps}
+use Rattle.marks.specs.Marks.{hasMark, known, withMark, notingAt, Notes}
+use Rattle.marks.proofs.Marking.{known-marked}
+use Rattle.step.specs.Keeping.{noRoom, Keeps}
 
 either : (a b c : Bool) → (a || b) ≡ true → (a || (b || c)) ≡ true
 either true b c e = refl
@@ -24,6 +25,13 @@ module _ (memory journal map : List ℕ) (pairs : ℕ) (stored : Bool) (address 
   pub keeps-none : (not stored || eqb (length map) 0) ≡ true → Keeps memory journal map pairs stored address former memory journal map (notingAt false pairs)
   keeps-none e =
       let t = either (not stored) (eqb (length map) 0) (known map journal pairs address) e in
+      record { result = rw t; words = rw t; places = rw t; marks = rw t }
+
+  -- its address has a mark, so that it has a pair
+  pub keeps-marked : (not stored || eqb (length map) 0) ≡ false → hasMark map address ≡ true
+      → Keeps memory journal map pairs stored address former memory journal map (notingAt false pairs)
+  keeps-marked e m =
+      let t = neither (not stored) (eqb (length map) 0) (known map journal pairs address) e ∙ known-marked map journal pairs address m in
       record { result = rw t; words = rw t; places = rw t; marks = rw t }
 
   module _ (e : (not stored || eqb (length map) 0) ≡ false) {map′ journal′ : List ℕ} {n : Noting} (h : Notes map journal pairs address former map′ journal′ n) where
