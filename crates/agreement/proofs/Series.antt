@@ -27,10 +27,10 @@ series-as-one board memory start resets k f s m (more {resets = first} {later = 
     ∙ one-run board first later start memory i j
 
 -- another list that rises is taken too
-other-resets : (memory : List ℕ) (board : Board) (resets later : List ℕ) (start : GateState) → gate_verdict memory board resets start ≡ Accepted
+other_resets : (memory : List ℕ) (board : Board) (resets later : List ℕ) (start : GateState) → gate_verdict memory board resets start ≡ Accepted
     → rises later ≡ true → gate_verdict memory board later start ≡ Accepted
 unfolding gate_run
-other-resets memory board resets later start v e = next-accepted memory board resets start v later (rw e) 0 refl
+other_resets memory board resets later start v e = next-accepted memory board resets start v later (rw e) 0 refl
 
 pub series-goes-on : SeriesGoesOn
 series-goes-on board memory start resets k f s m (one h z) later l =
@@ -47,7 +47,7 @@ whole-taken board memory start resets k f s m (one h z) = not-refused memory boa
 whole-taken board memory start resets k f s m (more {resets = first} {later = later} {i = i} {f = f₁} {s = s₁} {m = m₁} {k = j} p h z) =
     let v = whole-taken board memory start first i f₁ s₁ m₁ p in
     let u = not-refused m₁ board later s₁ j h z in
-    other-resets memory board first (resets_then i first later) start v
+    other_resets memory board first (resets_then i first later) start v
     (joined-rises i first later (resets-rise memory board first start v) (resets-rise m₁ board later s₁ u))
 
 pub series-as-call : SeriesAsCall

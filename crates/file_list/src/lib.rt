@@ -61,10 +61,7 @@ fn files_fit(memory: &[u32], bottom: u32, words: &[u32], files: &[u32]) -> Verdi
 fn version_fits(version: u32) -> Verdict
     ensures { result ≡ version_fits version }
 {
-    demand(
-        (version == 1) | (version == 2) | (version == 3),
-        Refusal::WrongVersion,
-    )
+    demand((version == 1) | (version == 2), Refusal::WrongVersion)
 }
 
 // The first reason to turn a traverse down.

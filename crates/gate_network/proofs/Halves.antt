@@ -98,8 +98,8 @@ module _ (p q : List Bool) (same : length q ≡ length p) where
 range_all : (n : ℕ) (l : List Bool) → length l ≡ 2 ^ n → range n l 0 ≡ l
 range_all n l e = take_all (2 ^ n) l (le_of_eq e)
 
-pub halves-as-ripple : HalvesAsRipple
-halves-as-ripple n p q f lp lq =
+pub halves_as_ripple : HalvesAsRipple
+halves_as_ripple n p q f lp lq =
     let same : length q ≡ length p = lq ∙ sym lp in
     let fits : 0 + 2 ^ n ≤ length p = omega arith in
     record {
@@ -107,7 +107,7 @@ halves-as-ripple n p q f lp lq =
       carry = range-carry p q same n 0 f fits ∙ ap₂ (λ (a b : List Bool). ripple_carry a b f) (range_all n p lp) (range_all n q lq);
     }
 
-pub halves-add : HalvesAdd
-halves-add n p q f lp lq =
-    let h = halves-as-ripple n p q f lp lq in
+pub halves_add : HalvesAdd
+halves_add n p q f lp lq =
+    let h = halves_as_ripple n p q f lp lq in
     adds-alike (ripple_adds (2 ^ n) p q f lp lq) (h.carry, h.sum)

@@ -19,7 +19,7 @@ use Rattle.gate_network.specs.Theorems.{Adds, AddsAt, out_of, UnitAtEveryWidth, 
 use Rattle.gate_network.proofs.Worth.{ripple_adds, value-below, value-top, value_low, value_none, length-bits, value-bits}
 use Rattle.gate_network.proofs.RowWorth.{pick_first, pick_second, first-length, table-value, none-digits, a-digits, b-digits, and_digits, or_digits, xor_digits, not-value}
 use Rattle.gate_network.proofs.RowWorth.{shift_value, second-length, second-value, second-turned}
-use Rattle.gate_network.proofs.Halves.{halves-add}
+use Rattle.gate_network.proofs.Halves.{halves_add}
 use Rattle.gate_network.proofs.Adders.{flagged, adder_sum, adder_difference}
 
 -- a shift puts the bit that it drops into the carry
@@ -123,8 +123,8 @@ around k sum carry h a b c la lb o0 o1 o2 o3 =
 pub ripple_unit : RippleUnit
 ripple_unit k = around k ripple_sum ripple_carry (ripple_adds (suc k))
 
-pub halves-unit : HalvesUnit
-halves-unit n k e = around k (halves_sum n 0) (halves_carry n 0) (λ p q f lp lq. halves-add n p q f (lp ∙ e) (lq ∙ e))
+pub halves_unit : HalvesUnit
+halves_unit n k e = around k (halves_sum n 0) (halves_carry n 0) (λ p q f lp lq. halves_add n p q f (lp ∙ e) (lq ∙ e))
 
 -- ---- words in, a word out
 

@@ -14,13 +14,13 @@ use Rattle.gate_network.specs.Gates.{full_sum}
 use Rattle.gate_network.specs.Halves.{place_carry, joined_carry, range_carry, carry_past, halves_sum, halves_carry}
 use Rattle.gates.specs.Halving.{RangeCarries, RangeSums}
 
-halves-length : (n at : ℕ) (p q : List Bool) (f : Bool) → length (halves_sum n at p q f) ≡ 2 ^ n
+halves_length : (n at : ℕ) (p q : List Bool) (f : Bool) → length (halves_sum n at p q f) ≡ 2 ^ n
 unfolding halves_sum
-halves-length zero at p q f = refl
-halves-length (suc n) at p q f =
+halves_length zero at p q f = refl
+halves_length (suc n) at p q f =
     let g = halves_carry n at p q f in
     length-append (halves_sum n at p q f) (halves_sum n (at + 2 ^ n) p q g)
-    ∙ omega (arith, pow-suc 2 n, halves-length n at p q f, halves-length n (at + 2 ^ n) p q g)
+    ∙ omega (arith, pow-suc 2 n, halves_length n at p q f, halves_length n (at + 2 ^ n) p q g)
 
 module _ (p q : List Bool) (at width : ℕ) where
   -- ---- one place
@@ -63,11 +63,11 @@ module _ (p q : List Bool) (at width : ℕ) where
       let upper = halves_sum n (at + 2 ^ n) p q (halves_carry n at p q f) in
       h n half
       ∙ (λ i. sets (s n half i) (at + half i) (halves_sum n (at + half i) p q ((e ∙ ap (λ (t : RangeCarry). carry_past t f) (l n half)) i)))
-      ∙ ap (λ (m : ℕ). sets (sets out at lower) (at + m) upper) (sym (halves-length n at p q f)) ∙ sets-append out at lower upper
+      ∙ ap (λ (m : ℕ). sets (sets out at lower) (at + m) upper) (sym (halves_length n at p q f)) ∙ sets-append out at lower upper
 
 -- ---- the whole rows, of 32 bits
 
-pub halves-whole : (p q : List Bool) (f : Bool) (out : List Bool) {d : Bool} {r : RangeCarry} {s : List Bool} → length out ≡ 32
+pub halves_whole : (p q : List Bool) (f : Bool) (out : List Bool) {d : Bool} {r : RangeCarry} {s : List Bool} → length out ≡ 32
     → RangeSums p q 0 32 f out s → RangeCarries p q 0 32 r → d ≡ carry_past r f → (d ≡ halves_carry 5 0 p q f) × (s ≡ halves_sum 5 0 p q f)
-halves-whole p q f out e h l g =
-    (g ∙ ap (λ (t : RangeCarry). carry_past t f) (l 5 refl), h 5 refl ∙ all_set out (halves_sum 5 0 p q f) (e ∙ sym (halves-length 5 0 p q f)))
+halves_whole p q f out e h l g =
+    (g ∙ ap (λ (t : RangeCarry). carry_past t f) (l 5 refl), h 5 refl ∙ all_set out (halves_sum 5 0 p q f) (e ∙ sym (halves_length 5 0 p q f)))

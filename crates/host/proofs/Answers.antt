@@ -8,8 +8,6 @@ use lib.Dec.{eqb}
 use lib.ListN.{length}
 use borrow.Author.Tests.{eq-eqb, ne_eqb}
 use Rattle.model.specs.declared.GateState.{GateState}
-use Rattle.model.specs.declared.Machine.{Machine}
-use Rattle.model.specs.declared.Verdict.{Verdict}
 use Rattle.model.specs.Board.{Board, board_with}
 use Rattle.interpreter.specs.declared.RunResult.{RunResult}
 use Rattle.interpreter.specs.declared.FileResult.{FileResult}
@@ -19,17 +17,16 @@ use Rattle.gate_machine.specs.Calls.{GateRuns}
 use Rattle.lent_clock.specs.Calls.{LentClock}
 use Rattle.image.specs.declared.ReadResult.{ReadResult}
 use Rattle.image.specs.declared.WriteAnswer.{WriteAnswer}
-use Rattle.image.specs.Reading.{Outcome}
-use Rattle.image.specs.Calls.{LeavesBytes, LeavesWords}
+use Rattle.image.specs.Calls.{Reads, Writes}
 use Rattle.traverses.specs.declared.TraverseResult.{TraverseResult}
 use Rattle.traverses.specs.Calls.{Traverses}
 use Rattle.host_reading.specs.declared.MachineLent.{MachineLent}
 use Rattle.host_reading.specs.declared.StateLent.{StateLent}
-use Rattle.host_reading.specs.Layout.{three_places, two_places, one_place, file_size, machine_size, machine_in, state_size, lent_formed, machine_lent, state_lent}
+use Rattle.host_reading.specs.Layout.{three_places, two_places, one_place, file_size, machine_size, state_size, lent_formed, machine_lent, state_lent}
 use Rattle.host_reading.proofs.Lengths.{lent-tests}
 use Rattle.host_reading.proofs.Starts.{lent-misfits, lent_fits, machine-tested, machine-start, state-tested, state-start}
 use Rattle.host_calls.specs.Codes.{misfit, code_if, after_call}
-use Rattle.host_calls.specs.Calls.{machine_formed, RunCall, FileCall, GateCall, TraverseCall, LoadCall, PutCall}
+use Rattle.host_calls.specs.Calls.{RunCall, FileCall, GateCall, TraverseCall, ReadCall, WriteCall}
 use Rattle.host_ends.specs.Ends.{Ends, RunEnds, FileEnds, GateEnds, TraverseEnds, ReadEnds, WriteEnds}
 use Rattle.host_ends.proofs.Fitting.{ends-fitting}
 
@@ -157,15 +154,15 @@ module _ (memory : List ℕ) (bottom : ℕ) (journal load files machine : List �
         numbers = rw (whole, ← same) ends.2;
       }
 
-module _ (outcome : Outcome) (memory machine result : List ℕ) (lent : MachineLent) (e : lent ≡ machine_lent machine (length result) two_places) where
-  pub read-misfit : not lent.formed ≡ true → LoadCall outcome memory machine result memory machine result misfit
+module _ (bytes memory machine result : List ℕ) (lent : MachineLent) (e : lent ≡ machine_lent machine (length result) two_places) where
+  pub read-misfit : not lent.formed ≡ true → ReadCall bytes memory machine result memory machine result misfit
   read-misfit n =
       let f = lent-misfits (machine-tested machine (length result) two_places lent e) n in
       record { returned = rw f; words = rw f; parts = rw f; numbers = rw f }
 
-  pub read-formed : not lent.formed ≡ false → (r : ReadResult) (memory' : List ℕ) → LeavesWords outcome memory memory' r
+  pub read-formed : not lent.formed ≡ false → (r : ReadResult) (memory' : List ℕ) → Reads bytes memory memory' r
       → (machine' result' : List ℕ) (number : ℕ) → ReadEnds r machine result machine' result' number
-      → LoadCall outcome memory machine result memory' machine' result' number
+      → ReadCall bytes memory machine result memory' machine' result' number
   read-formed n r memory' reads machine' result' number g =
       let f = lent_fits (machine-tested machine (length result) two_places lent e) n in
       let same = reads.result in
@@ -177,43 +174,21 @@ module _ (outcome : Outcome) (memory machine result : List ℕ) (lent : MachineL
         numbers = rw (← same) ends.2;
       }
 
--- a call that puts an image, by whether what is lent has the layout's lengths
-module _ {formed : Bool} {verdict : Verdict} {image out result : List ℕ} where
-  put-misfit : formed ≡ false → PutCall formed verdict image out result out result misfit
-  put-misfit f = record { returned = rw f; bytes = rw f; numbers = rw f }
+module _ (memory machine : List ℕ) (version : ℕ) (out result : List ℕ) (lent : MachineLent) (e : lent ≡ machine_lent machine (length result) one_place) where
+  pub write_misfit : not lent.formed ≡ true → WriteCall memory machine version out result out result misfit
+  write_misfit n =
+      let f = lent-misfits (machine-tested machine (length result) one_place lent e) n in
+      record { returned = rw f; bytes = rw f; numbers = rw f }
 
-  put-formed : {r : WriteAnswer} {out' result' : List ℕ} {number : ℕ} → formed ≡ true → eqb (length result) one_place ≡ true
-      → LeavesBytes verdict image out out' r → WriteEnds r result result' number → PutCall formed verdict image out result out' result' number
-  put-formed f h leaves g =
-      let same = leaves.result in
-      record {
-        returned = rw (f, ← same) g.returned;
-        bytes = rw f leaves.bytes;
-        numbers = rw (f, ← same) (rw h at g.numbers);
-      }
-
-module _ (machine result : List ℕ) (lent : MachineLent) (e : lent ≡ machine_lent machine (length result) one_place) where
-  pub write_misfit : {verdict : Verdict} {image out : List ℕ} → not lent.formed ≡ true
-      → PutCall (machine_formed one_place machine result) verdict image out result out result misfit
-  write_misfit n = put-misfit (lent-misfits (machine-tested machine (length result) one_place lent e) n)
-
-  -- of the verdict and the image that a machine comes to
-  pub write_formed : (verdict : Machine → Verdict) (image : Machine → List ℕ) (out : List ℕ) → not lent.formed ≡ false
-      → (r : WriteAnswer) (out' : List ℕ) → LeavesBytes (verdict lent.machine) (image lent.machine) out out' r
-      → (result' : List ℕ) (number : ℕ) → WriteEnds r result result' number
-      → PutCall (machine_formed one_place machine result) (verdict (machine_in machine)) (image (machine_in machine)) out result out' result' number
-  write_formed verdict image out n r out' leaves result' number g =
+  pub write_formed : not lent.formed ≡ false → (r : WriteAnswer) (out' : List ℕ) → Writes memory lent.machine version out out' r
+      → (result' : List ℕ) (number : ℕ) → WriteEnds r result result' number → WriteCall memory machine version out result out' result' number
+  write_formed n r out' writes result' number g =
       let f = lent_fits (machine-tested machine (length result) one_place lent e) n in
       let start = machine-start machine (length result) one_place lent e n in
+      let same = rw start at writes.result in
       let h = lent-tests machine_size one_place (length machine) (length result) f in
-      put-formed f h.1 (rw start at leaves) g
-
--- CR 12: a move, which is lent no machine
-module _ {verdict : Verdict} {image out result : List ℕ} where
-  pub move_misfit : length result ≢ one_place → PutCall (eqb (length result) one_place) verdict image out result out result misfit
-  move_misfit n = put-misfit (ne_eqb (length result) one_place n)
-
-  pub move_formed : {r : WriteAnswer} {out' result' : List ℕ} {number : ℕ} → length result ≡ one_place
-      → LeavesBytes verdict image out out' r → WriteEnds r result result' number
-      → PutCall (eqb (length result) one_place) verdict image out result out' result' number
-  move_formed w leaves g = let f = eq-eqb (length result) one_place w in put-formed f f leaves g
+      record {
+        returned = rw (f, ← same) g.returned;
+        bytes = rw f (rw start at writes.bytes);
+        numbers = rw (f, ← same) (rw h.1 at g.numbers);
+      }

@@ -1,13 +1,10 @@
 // The exported calls, for C, Rust and Python: numbers and slices alone. The crate host_reading has the layout of what is lent,
 // host_calls the codes that are returned and what each call leaves.
 ghost use Rattle.std.specs.Prelude.{[]};
-ghost use Rattle.host_calls.specs.Calls.{RunCall, FileCall, GateCall, TraverseCall, ReadCall, WriteCall, ReadChangesCall, WriteChangesCall, MoveUpCall, MoveDownCall};
+ghost use Rattle.host_calls.specs.Calls.{RunCall, FileCall, GateCall, TraverseCall, ReadCall, WriteCall};
 
-use changes_reader::read_changes;
-use changes_writer::{move_up, write_changes};
 use host_ends::{MISFIT, end_file_run, end_gate_run, end_read, end_run, end_traverse, end_write};
 use host_reading::{FILE_SIZE, ONE_PLACE, THREE_PLACES, TWO_PLACES, machine_lent, state_lent};
-use image_moves::move_down;
 use lent_clock::clock_once;
 
 // A run of the interpreter from a position of its wait list. `result`: instructions that ran, clock total, list position after.
@@ -152,78 +149,5 @@ pub extern "C" fn fm8502_image_write(
         return MISFIT;
     }
     let r = image_writer::write(memory, lent.machine, version, out);
-    end_write(r, res)
-}
-
-// Reads an image of changes: the base with them to the front of `memory`, its machine. `result`: the image's words, its version.
-#[unsafe(no_mangle)]
-pub extern "C" fn fm8502_image_read_changes(
-    bytes: &[u8],
-    base: &[u32],
-    memory: &mut [u32],
-    machine: &mut [u32],
-    res: &mut [u64],
-) -> u32
-    ensures { ReadChangesCall bytes.now base.now memory.old machine.old res.old memory.new machine.new res.new result }
-{
-    let lent = machine_lent(&*machine, res.len(), TWO_PLACES);
-    if !lent.formed {
-        return MISFIT;
-    }
-    let r = read_changes(bytes, base, memory);
-    end_read(r, machine, res)
-}
-
-// Writes the image of a machine and of how its memory differs from a base to the front of `out`. `result`: the image's bytes.
-#[unsafe(no_mangle)]
-pub extern "C" fn fm8502_image_write_changes(
-    memory: &[u32],
-    base: &[u32],
-    machine: &[u32],
-    version: u32,
-    out: &mut [u8],
-    res: &mut [u64],
-) -> u32
-    ensures { WriteChangesCall memory.now base.now machine.now version out.old res.old out.new res.new result }
-{
-    let lent = machine_lent(machine, res.len(), ONE_PLACE);
-    if !lent.formed {
-        return MISFIT;
-    }
-    let r = write_changes(memory, base, lent.machine, version, out);
-    end_write(r, res)
-}
-
-// Writes the image of changes of a version 2 image to the front of `out`. `result`: the image's bytes.
-#[unsafe(no_mangle)]
-pub extern "C" fn fm8502_image_move_up(
-    bytes: &[u8],
-    base: &[u32],
-    out: &mut [u8],
-    res: &mut [u64],
-) -> u32
-    ensures { MoveUpCall bytes.now base.now out.old res.old out.new res.new result }
-{
-    if res.len() != ONE_PLACE {
-        return MISFIT;
-    }
-    let r = move_up(bytes, base, out);
-    end_write(r, res)
-}
-
-// Writes the version 2 image of an image of changes to the front of `out`. `result`: the image's bytes.
-#[unsafe(no_mangle)]
-pub extern "C" fn fm8502_image_move_down(
-    bytes: &[u8],
-    base: &[u32],
-    out: &mut [u8],
-    res: &mut [u64],
-) -> u32
-    ensures { MoveDownCall bytes.now base.now out.old res.old out.new res.new result }
-{
-    if res.len() != ONE_PLACE {
-        return MISFIT;
-    }
-    let r = move_down(bytes, base, out);
     end_write(r, res)
 }

@@ -18,18 +18,15 @@ use Rattle.model.specs.Refusals.{run_verdict, file_verdict, gate_verdict}
 use Rattle.interpreter.specs.Calls.{run_returned, run_words, file_returned, file_words, file_places}
 use Rattle.gate_machine.specs.Calls.{gate_returned, gate_words}
 use Rattle.image.specs.Bytes.{bytes_of, number_in, word_bytes, words_in}
-use Rattle.image.specs.Format.{fields_for, field_bytes, word_fields, with_head, image_of}
-use Rattle.image.specs.Reading.{header_verdict, field_verdict, read_field, read_memory, read_head, read_end, read_all, read_of}
-use Rattle.image.specs.Calls.{write_verdict}
-use Rattle.image_changes.specs.Entries.{changes_from, changes_of, changed, entries_verdict, due_after}
-use Rattle.image_changes.specs.Changes.{changes_image, read_entries, read_changes_by, read_changes}
-use Rattle.image_changes.specs.Calls.{changes_verdict, move_verdict, up_of, down_of}
+use Rattle.image.specs.Format.{fields_for, field_bytes, memory_fields, image_of}
+use Rattle.image.specs.Reading.{header_verdict, field_verdict, read_field, read_memory, read_of}
+use Rattle.image.specs.Calls.{write_verdict, write_returned, write_bytes, read_returned, read_words}
 use Rattle.traverses.specs.Files.{files_from, files_in, parts, sizes, all_placed}
 use Rattle.traverses.specs.Traverse.{lay_one, lay_all, part_laid, part_noted, one_file, traversed}
 use Rattle.traverses.specs.Calls.{traverse_verdict, traverse_returned, traverse_words, traverse_places}
 use Rattle.host_reading.specs.Layout.{machine_in, state_in, lent_formed}
 use Rattle.host_words.specs.Words.{machine_words}
-use Rattle.host_calls.specs.Calls.{RunCall, FileCall, GateCall, TraverseCall, ReadCall, WriteCall, ReadChangesCall, WriteChangesCall, MoveUpCall, MoveDownCall}
+use Rattle.host_calls.specs.Calls.{RunCall, FileCall, GateCall, TraverseCall, ReadCall, WriteCall}
 
 -- a lent machine of r0, r1 and r2; the other registers and the flags are 0
 abbrev machine : (r0 r1 r2 : ℕ) → List ℕ
@@ -217,111 +214,33 @@ image version =
 
 image-write : WriteCall (0x0001_3C21 ∷ []) (machine 0 0 0) 1 (used 64) (used 1)
     (image 1 ++ 9 ∷ []) (63 ∷ []) 0
-unfolding bytes_of word_bytes fields_for field_bytes word_fields with_head image_of write_verdict machine_in lent_formed
+unfolding bytes_of word_bytes fields_for field_bytes memory_fields image_of write_verdict write_returned write_bytes machine_in lent_formed
 image-write = record { returned = refl; bytes = refl; numbers = refl }
 
 -- CR 1: as version 2
 image-write-2 : WriteCall (0x0001_3C21 ∷ []) (machine 0 0 0) 2 (used 64) (used 1)
     (image 2 ++ 9 ∷ []) (63 ∷ []) 0
-unfolding bytes_of word_bytes fields_for field_bytes word_fields with_head image_of write_verdict machine_in lent_formed
+unfolding bytes_of word_bytes fields_for field_bytes memory_fields image_of write_verdict write_returned write_bytes machine_in lent_formed
 image-write-2 = record { returned = refl; bytes = refl; numbers = refl }
 
 -- CR 1: no image has version 0, and an output that is too short comes first
 image-write-0 : WriteCall (used 1) (used 12) 0 (used 63) (used 1)
     (used 63) (used 1) 11
-unfolding bytes_of word_bytes fields_for field_bytes word_fields with_head image_of write_verdict machine_in lent_formed
+unfolding bytes_of word_bytes fields_for field_bytes memory_fields image_of write_verdict write_returned write_bytes machine_in lent_formed
 image-write-0 = record { returned = refl; bytes = refl; numbers = refl }
 
 image-write-short : WriteCall (used 1) (used 12) 0 (used 62) (used 1)
     (used 62) (used 1) 7
-unfolding bytes_of word_bytes fields_for field_bytes word_fields with_head image_of write_verdict machine_in lent_formed
+unfolding bytes_of word_bytes fields_for field_bytes memory_fields image_of write_verdict write_returned write_bytes machine_in lent_formed
 image-write-short = record { returned = refl; bytes = refl; numbers = refl }
 
 image-read : ReadCall (image 1) (used 2) (used 12) (used 2)
     (0x0001_3C21 ∷ 9 ∷ []) (machine 0 0 0) (1 ∷ 1 ∷ []) 0
-unfolding number_in words_in fields_for header_verdict field_verdict read_field read_memory read_head read_end read_all read_of lent_formed machine_words
+unfolding number_in words_in fields_for header_verdict field_verdict read_field read_memory read_of read_returned read_words lent_formed machine_words
 image-read = record { returned = refl; words = refl; parts = refl; numbers = refl }
 
 -- CR 1: the version that was read
 image-read-2 : ReadCall (image 2) (used 2) (used 12) (used 2)
     (0x0001_3C21 ∷ 9 ∷ []) (machine 0 0 0) (1 ∷ 2 ∷ []) 0
-unfolding number_in words_in fields_for header_verdict field_verdict read_field read_memory read_head read_end read_all read_of lent_formed machine_words
+unfolding number_in words_in fields_for header_verdict field_verdict read_field read_memory read_of read_returned read_words lent_formed machine_words
 image-read-2 = record { returned = refl; words = refl; parts = refl; numbers = refl }
-
--- ---- CR 12: a memory of three words, of which the second differs from the base's
-
-abbrev base : List ℕ
-base = 5 ∷ 6 ∷ 7 ∷ []
-
-abbrev memory : List ℕ
-memory = 5 ∷ 9 ∷ 7 ∷ []
-
--- an image of three words up to M, and the end
-abbrev head_of : (version : ℕ) → List ℕ
-head_of version =
-    1 ∷ 1 ∷ 0 ∷ version
-    ∷ 2 ∷ 32 ∷ 0 ∷ replicate 32 0
-    ++ 3 ∷ 4 ∷ 0 ∷ 0 ∷ 0 ∷ 0 ∷ 0
-    ∷ 4 ∷ 4 ∷ 0 ∷ 3 ∷ 0 ∷ 0 ∷ 0
-    ∷ []
-
--- version 2: all words
-abbrev whole : List ℕ
-whole = head_of 2 ++ 5 ∷ 12 ∷ 0 ∷ 5 ∷ 0 ∷ 0 ∷ 0 ∷ 9 ∷ 0 ∷ 0 ∷ 0 ∷ 7 ∷ 0 ∷ 0 ∷ 0 ∷ 0xFF ∷ 0 ∷ 0 ∷ []
-
--- version 3: one entry, of address 1 and word 9
-abbrev changes : List ℕ
-changes = head_of 3 ++ 6 ∷ 8 ∷ 0 ∷ 1 ∷ 0 ∷ 0 ∷ 0 ∷ 9 ∷ 0 ∷ 0 ∷ 0 ∷ 0xFF ∷ 0 ∷ 0 ∷ []
-
-image-write-changes : WriteChangesCall memory base (machine 0 0 0) 3 (used 68) (used 1)
-    (changes ++ 9 ∷ []) (67 ∷ []) 0
-unfolding bytes_of word_bytes fields_for field_bytes word_fields with_head changes_from changes_of changes_image changes_verdict machine_in lent_formed
-image-write-changes = record { returned = refl; bytes = refl; numbers = refl }
-
--- with a base the version is 3, which is asked before the base, and the base before the room
-image-write-changes-2 : WriteChangesCall memory (5 ∷ []) (machine 0 0 0) 2 (used 1) (used 1)
-    (used 1) (used 1) 11
-unfolding bytes_of word_bytes fields_for field_bytes word_fields with_head changes_from changes_of changes_image changes_verdict machine_in lent_formed
-image-write-changes-2 = record { returned = refl; bytes = refl; numbers = refl }
-
-image-write-changes-base : WriteChangesCall memory (5 ∷ []) (machine 0 0 0) 3 (used 1) (used 1)
-    (used 1) (used 1) 27
-unfolding bytes_of word_bytes fields_for field_bytes word_fields with_head changes_from changes_of changes_image changes_verdict machine_in lent_formed
-image-write-changes-base = record { returned = refl; bytes = refl; numbers = refl }
-
-image-read-changes : ReadChangesCall changes base (used 4) (used 12) (used 2)
-    (memory ++ 9 ∷ []) (machine 0 0 0) (3 ∷ 3 ∷ []) 0
-unfolding number_in words_in header_verdict field_verdict read_field read_head read_end changed entries_verdict due_after read_entries read_changes_by read_changes lent_formed machine_words
-image-read-changes = record { returned = refl; words = refl; parts = refl; numbers = refl }
-
--- a base of another length, before a memory that is too short: what is lent stays
-image-read-changes-base : ReadChangesCall changes (5 ∷ []) (used 1) (used 12) (used 2)
-    (used 1) (used 12) (used 2) 27
-unfolding number_in words_in header_verdict field_verdict read_field read_head read_end changed entries_verdict due_after read_entries read_changes_by read_changes lent_formed machine_words
-image-read-changes-base = record { returned = refl; words = refl; parts = refl; numbers = refl }
-
-image-move-up : MoveUpCall whole base (used 68) (used 1)
-    (changes ++ 9 ∷ []) (67 ∷ []) 0
-unfolding bytes_of number_in word_bytes words_in fields_for field_bytes word_fields with_head header_verdict field_verdict read_field read_memory read_head read_end read_all changes_from changes_of changes_image move_verdict up_of
-image-move-up = record { returned = refl; bytes = refl; numbers = refl }
-
-image-move-up-short : MoveUpCall whole base (used 66) (used 1)
-    (used 66) (used 1) 7
-unfolding bytes_of number_in word_bytes words_in fields_for field_bytes word_fields with_head header_verdict field_verdict read_field read_memory read_head read_end read_all changes_from changes_of changes_image move_verdict up_of
-image-move-up-short = record { returned = refl; bytes = refl; numbers = refl }
-
--- a result of two places, before any reason to refuse
-image-move-up-misfit : MoveUpCall [] [] (used 1) (used 2)
-    (used 1) (used 2) 200
-image-move-up-misfit = record { returned = refl; bytes = refl; numbers = refl }
-
-image-move-down : MoveDownCall changes base (used 72) (used 1)
-    (whole ++ 9 ∷ []) (71 ∷ []) 0
-unfolding bytes_of number_in word_bytes words_in fields_for field_bytes word_fields with_head image_of header_verdict field_verdict read_field read_head read_end changed entries_verdict due_after read_entries read_changes_by move_verdict down_of
-image-move-down = record { returned = refl; bytes = refl; numbers = refl }
-
--- what moves up does not move down
-image-move-down-2 : MoveDownCall whole base (used 72) (used 1)
-    (used 72) (used 1) 11
-unfolding bytes_of number_in word_bytes words_in fields_for field_bytes word_fields with_head image_of header_verdict field_verdict read_field read_head read_end changed entries_verdict due_after read_entries read_changes_by move_verdict down_of
-image-move-down-2 = record { returned = refl; bytes = refl; numbers = refl }

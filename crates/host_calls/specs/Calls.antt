@@ -1,11 +1,8 @@
 -- What each exported call returns and leaves in what it is lent: the calls of the interpreter, the gate machine, a traverse, the image
--- readers, writers and moves, on lent words. Document 01, "Machine and instruction word", "Clocks", "File run and journal", "Image" and "Why a call
--- is turned down"; CR 1, CR 5, CR 6, CR 7, CR 11 and CR 12.
+-- reader and the image writer, on lent words. Document 01, "Machine and instruction word", "Clocks", "File run and journal", "Image" and "Why a call
+-- is turned down"; CR 1, CR 5, CR 6, CR 7 and CR 11.
 use Rattle.std.specs.Prelude.{ℕ, ◌%◌, ◌≡◌, Bool, cond, ◌&&◌, List, eqb, length}
-use Rattle.model.specs.declared.Verdict.{Verdict}
-use Rattle.model.specs.Words.{overlay}
 use Rattle.model.specs.Board.{board_with}
-use Rattle.model.specs.Refusals.{left_by}
 use Rattle.interpreter.specs.declared.RunResult.{RunResult}
 use Rattle.interpreter.specs.declared.FileResult.{FileResult}
 use Rattle.interpreter.specs.Calls.{run_returned, run_words, file_returned, file_words, file_places}
@@ -13,11 +10,7 @@ use Rattle.gate_machine.specs.declared.GateResult.{GateResult}
 use Rattle.gate_machine.specs.Calls.{gate_number, gate_returned, gate_words}
 use Rattle.image.specs.declared.ReadResult.{ReadResult}
 use Rattle.image.specs.declared.WriteAnswer.{WriteAnswer}
-use Rattle.image.specs.Format.{image_of}
-use Rattle.image.specs.Reading.{Outcome, read_of}
-use Rattle.image.specs.Calls.{write_result, write_number, read_result, outcome_words, read_number, write_verdict}
-use Rattle.image_changes.specs.Changes.{changes_image, read_changes}
-use Rattle.image_changes.specs.Calls.{changes_verdict, move_verdict, up_of, moved_up, down_of, moved_down}
+use Rattle.image.specs.Calls.{write_number, write_returned, write_bytes, read_number, read_returned, read_words}
 use Rattle.traverses.specs.declared.TraverseResult.{TraverseResult}
 use Rattle.traverses.specs.Calls.{traverse_returned, traverse_words, traverse_places}
 use Rattle.host_reading.specs.Layout.{three_places, two_places, one_place, file_size, machine_size, machine_in, state_size, state_in, lent_formed}
@@ -101,62 +94,31 @@ module _ (memory : List ℕ) (bottom : ℕ) (journal load files machine : List �
     pub parts : machine' ≡ after_file traverse_comes_to (machine_words traverse_within.machine) machine
     pub numbers : result' ≡ after_call traverse_comes_to (traverse_counts traverse_within) result
 
--- ---- the calls that load an image; `outcome` is what reading comes to
+-- ---- fm8502_image_read: the image reader
 
-module _ (outcome : Outcome) (memory machine result : List ℕ) where
+module _ (bytes memory machine result : List ℕ) where
   abbrev pub read_within : ReadResult
-  read_within = read_result outcome
+  read_within = read_returned bytes memory
 
   abbrev pub read_comes_to : ℕ
   read_comes_to = code_if (machine_formed two_places machine result) (read_number read_within.answer)
 
-  pub record LoadCall (memory' machine' result' : List ℕ) (number : ℕ) : Type 0 where
+  pub record ReadCall (memory' machine' result' : List ℕ) (number : ℕ) : Type 0 where
     pub returned : number ≡ read_comes_to
-    pub words : memory' ≡ cond (machine_formed two_places machine result) (outcome_words outcome memory) memory
+    pub words : memory' ≡ cond (machine_formed two_places machine result) (read_words bytes memory) memory
     pub parts : machine' ≡ after_call read_comes_to (machine_words read_within.machine) machine
     pub numbers : result' ≡ after_call read_comes_to (read_counts read_within) result
 
--- fm8502_image_read
-abbrev pub ReadCall : (bytes memory machine result memory' machine' result' : List ℕ) → (number : ℕ) → Type 0
-ReadCall bytes memory = LoadCall (read_of bytes (length memory)) memory
+-- ---- fm8502_image_write: the image writer
 
--- CR 12: fm8502_image_read_changes
-abbrev pub ReadChangesCall : (bytes base memory machine result memory' machine' result' : List ℕ) → (number : ℕ) → Type 0
-ReadChangesCall bytes base memory = LoadCall (read_changes bytes base (length memory)) memory
-
--- ---- the calls that put an image to the front of an output; `formed` is whether what is lent has the layout's lengths
-
-module _ (formed : Bool) (verdict : Verdict) (image out result : List ℕ) where
+module _ (memory machine : List ℕ) (version : ℕ) (out result : List ℕ) where
   abbrev pub write_within : WriteAnswer
-  write_within = write_result verdict image
+  write_within = write_returned memory (machine_in machine) version out
 
   abbrev pub write_comes_to : ℕ
-  write_comes_to = code_if formed (write_number write_within)
+  write_comes_to = code_if (machine_formed one_place machine result) (write_number write_within)
 
-  pub record PutCall (out' result' : List ℕ) (number : ℕ) : Type 0 where
+  pub record WriteCall (out' result' : List ℕ) (number : ℕ) : Type 0 where
     pub returned : number ≡ write_comes_to
-    pub bytes : out' ≡ cond formed (left_by verdict (overlay image out) out) out
+    pub bytes : out' ≡ cond (machine_formed one_place machine result) (write_bytes memory (machine_in machine) version out) out
     pub numbers : result' ≡ after_call write_comes_to (write_counts write_within) result
-
--- fm8502_image_write
-abbrev pub WriteCall : (memory machine : List ℕ) → (version : ℕ) → (out result out' result' : List ℕ) → (number : ℕ) → Type 0
-WriteCall memory machine version out result =
-    let image = image_of version (machine_in machine) memory in
-    PutCall (machine_formed one_place machine result) (write_verdict memory version image out) image out result
-
--- CR 12: fm8502_image_write_changes
-abbrev pub WriteChangesCall : (memory base machine : List ℕ) → (version : ℕ) → (out result out' result' : List ℕ) → (number : ℕ) → Type 0
-WriteChangesCall memory base machine version out result =
-    let image = changes_image (machine_in machine) base memory in
-    PutCall (machine_formed one_place machine result) (changes_verdict memory base version image out) image out result
-
--- CR 12: fm8502_image_move_up and fm8502_image_move_down, which are lent no machine
-abbrev pub MoveUpCall : (bytes base out result out' result' : List ℕ) → (number : ℕ) → Type 0
-MoveUpCall bytes base out result =
-    let image = moved_up base (up_of bytes base) in
-    PutCall (eqb (length result) one_place) (move_verdict (up_of bytes base) image out) image out result
-
-abbrev pub MoveDownCall : (bytes base out result out' result' : List ℕ) → (number : ℕ) → Type 0
-MoveDownCall bytes base out result =
-    let image = moved_down (down_of bytes base) in
-    PutCall (eqb (length result) one_place) (move_verdict (down_of bytes base) image out) image out result

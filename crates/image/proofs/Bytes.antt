@@ -55,10 +55,6 @@ below-drop bound zero list h = h
 below-drop bound (suc n) [] h = tt
 below-drop bound (suc n) (x ∷ list) h = below-drop bound n list h.1
 
-pub below-append : (bound : ℕ) (a b : List ℕ) → Below bound a → Below bound b → Below bound (a ++ b)
-below-append bound [] b h k = k
-below-append bound (x ∷ a) b h k = (h.0, below-append bound a b h.1 k)
-
 -- ---- words
 
 pub length-word-bytes : (words : List ℕ) → length (word_bytes words) ≡ 4 * length words
@@ -81,20 +77,6 @@ pub length-words : (n : ℕ) (bytes : List ℕ) → length (words_in n bytes) �
 unfolding words_in
 length-words zero bytes = refl
 length-words (suc n) bytes = ap suc (length-words n (drop 4 bytes))
-
--- words that bytes hold are small
-four_below : (bytes : List ℕ) → Below 256 bytes → number_in (take 4 bytes) < 2 ^ 32
-unfolding number_in
-four_below [] h = omega arith
-four_below (a ∷ []) h = omega (arith, h.0)
-four_below (a ∷ b ∷ []) h = omega (arith, h.0, h.1.0)
-four_below (a ∷ b ∷ c ∷ []) h = omega (arith, h.0, h.1.0, h.1.1.0)
-four_below (a ∷ b ∷ c ∷ d ∷ bytes) h = omega (arith, h.0, h.1.0, h.1.1.0, h.1.1.1.0)
-
-pub words-below : (n : ℕ) (bytes : List ℕ) → Below 256 bytes → Below (2 ^ 32) (words_in n bytes)
-unfolding words_in
-words-below zero bytes h = tt
-words-below (suc n) bytes h = (four_below bytes h, words-below n (drop 4 bytes) (below-drop 256 4 bytes h))
 
 pub words-of-bytes : (words : List ℕ) → Below (2 ^ 32) words → words_in (length words) (word_bytes words) ≡ words
 unfolding word_bytes words_in

@@ -4,7 +4,7 @@ use mathlib.Core.Path.{◌≡◌, refl, sym, ap, ap₂, ◌∙◌}
 use mathlib.Core.List.{List, [], ◌∷◌, ◌++◌}
 use native.Mathlib.Omega.{arith}
 use lib.Dec.{eqb, leb}
-use lib.ListN.{length, take, drop, get_or, length-append, length-drop, take-append-drop}
+use lib.ListN.{length, take, drop, get_or, length-append, take-append-drop}
 use lib.Seq.{take_at, drop_at, length-take-le}
 use borrow.Author.Tests.{leb-true, eqb-true}
 use Rattle.model.specs.declared.Machine.{Machine}
@@ -17,22 +17,22 @@ use Rattle.image.specs.Format.{Field, field_bytes}
 use Rattle.image.specs.Reading.{Outcome, loaded, ◌▷◌, header_verdict, field_verdict, read_field}
 use Rattle.image.proofs.Bytes.{number-bytes, bytes-number, below-take, below-drop}
 use Rattle.image.proofs.Outcomes.{verdicts-join, went_on}
-use Rattle.image.proofs.Headers.{whole-field, with_rule, without_rule}
+use Rattle.image.proofs.Headers.{whole-field, with_rule}
 
 three-and : (n : ℕ) → 3 + n ≡ suc (suc (suc n))
 three-and n = omega arith
 
-pub length-field : (tag : ℕ) (value : List ℕ) → length (field_bytes tag value) ≡ 3 + length value
+pub length-field : (f : Field) (value : List ℕ) → length (field_bytes f value) ≡ 3 + length value
 unfolding field_bytes bytes_of
-length-field tag value = omega arith
+length-field f value = omega arith
 
 -- ---- a field that was written is taken as far as its value's rule goes, and reading goes on with its value
 
 module _ (f : Field) (value rest : List ℕ) (long : length value ≡ f.due) (short : f.due < 65536) where
-  ruled : (v : Verdict) → f.rule value ≡ v → field_verdict f (field_bytes f.tag value ++ rest) ≡ v
+  ruled : (v : Verdict) → f.rule value ≡ v → field_verdict f (field_bytes f value ++ rest) ≡ v
   unfolding field_bytes bytes_of
   ruled v follows =
-      let all : List ℕ = field_bytes f.tag value ++ rest in
+      let all : List ℕ = field_bytes f value ++ rest in
       let l : length (value ++ rest) ≡ length value + length rest = length-append value rest in
       sym
       (with_rule f all refl
@@ -40,12 +40,12 @@ module _ (f : Field) (value rest : List ℕ) (long : length value ≡ f.due) (sh
       (sym (ap f.rule (take_at value rest f.due long) ∙ follows)))
 
   pub field-goes : (bytes : List ℕ) (next : List ℕ → List ℕ → Outcome) (v w : Verdict) (o : Outcome)
-      → bytes ≡ field_bytes f.tag value ++ rest → f.rule value ≡ v → next value rest ≡ (w ▷ o) → read_field f bytes next ≡ ((v then w) ▷ o)
+      → bytes ≡ field_bytes f value ++ rest → f.rule value ≡ v → next value rest ≡ (w ▷ o) → read_field f bytes next ≡ ((v then w) ▷ o)
   unfolding read_field field_bytes bytes_of
   field-goes bytes next v w o is follows e =
-      let left : drop (3 + f.due) (field_bytes f.tag value ++ rest) ≡ rest = ap (λ (n : ℕ). drop n (field_bytes f.tag value ++ rest)) (three-and f.due) ∙ drop_at value rest f.due long in
+      let left : drop (3 + f.due) (field_bytes f value ++ rest) ≡ rest = ap (λ (n : ℕ). drop n (field_bytes f value ++ rest)) (three-and f.due) ∙ drop_at value rest f.due long in
       ap (λ (b : List ℕ). read_field f b next) is
-      ∙ ap (λ (u : Verdict). u ▷ next (take f.due (value ++ rest)) (drop (3 + f.due) (field_bytes f.tag value ++ rest))) (ruled v follows)
+      ∙ ap (λ (u : Verdict). u ▷ next (take f.due (value ++ rest)) (drop (3 + f.due) (field_bytes f value ++ rest))) (ruled v follows)
       ∙ verdicts-join v w o (ap₂ next (take_at value rest f.due long) left ∙ e)
 
 -- ---- a field that was taken is the field of its value, and the bytes after it
@@ -53,7 +53,7 @@ module _ (f : Field) (value rest : List ℕ) (long : length value ≡ f.due) (sh
 pub record FieldTaken (f : Field) (bytes : List ℕ) (next : List ℕ → List ℕ → Outcome) (o : Outcome) : Type 0 where
   pub value : List ℕ
   pub rest : List ℕ
-  pub is : bytes ≡ field_bytes f.tag value ++ rest
+  pub is : bytes ≡ field_bytes f value ++ rest
   pub long : length value ≡ f.due
   pub follows : f.rule value ≡ Accepted
   pub value-below : Below 256 value
@@ -74,7 +74,7 @@ module _ (f : Field) where
       (leb-true _ _ (demanded _ _ h₀.0), eqb-true _ _ (demanded _ _ h₁.0), eqb-true _ _ (demanded _ _ h₂.0), leb-true _ _ (demanded _ _ h₂.1), h.1)
 
   field_is : (t a b : ℕ) (rest : List ℕ) → t ≡ f.tag → number_in (a ∷ b ∷ []) ≡ f.due → f.due ≤ length rest → Below 256 (a ∷ b ∷ [])
-      → (t ∷ a ∷ b ∷ rest) ≡ field_bytes f.tag (take f.due rest) ++ drop f.due rest
+      → (t ∷ a ∷ b ∷ rest) ≡ field_bytes f (take f.due rest) ++ drop f.due rest
   unfolding field_bytes
   field_is t a b rest p q h k =
       let due : ℕ = f.due in
@@ -111,10 +111,3 @@ module _ (f : Field) where
             rest_below = below-drop 256 due rest h.1.1.1;
             goes = ap (next (take due rest)) (sym d) ∙ e;
           }
-
--- an accepted header lies within the bytes, with its value
-pub header-fits : (tag due at : ℕ) (bytes : List ℕ) → header_verdict tag due (drop at bytes) ≡ Accepted → at + 3 + due ≤ length bytes
-header-fits tag due at bytes e =
-    let f : Field = record { tag = tag; due = due; rule = λ value. Accepted } in
-    let k = facts f (drop at bytes) (sym (without_rule f (drop at bytes) (λ value. refl)) ∙ e) in
-    omega (arith, k.3, length-drop at bytes)

@@ -76,15 +76,15 @@ without_rule f bytes any =
     sym (ap (λ (v : Verdict). header then v) (any (take f.due (drop 3 bytes))) ∙ then_accepted header)
 
 -- nothing follows a field without value
-pub nothing-follows : (bytes : List ℕ) (at : ℕ) → leb (length bytes - at) 3 ≡ eqb (length (drop 3 (drop at bytes))) 0
-nothing-follows bytes at = go (leb (length bytes - at) 3) refl
+pub nothing-follows : (bytes : List ℕ) (at : ℕ) → leb (length bytes) (at + 3) ≡ eqb (length (drop 3 (drop at bytes))) 0
+nothing-follows bytes at = go (leb (length bytes) (at + 3)) refl
   where
     l : length (drop 3 (drop at bytes)) ≡ length bytes - at - 3
     l = length-drop 3 (drop at bytes) ∙ ap (λ (n : ℕ). n - 3) (length-drop at bytes)
 
-    go : (t : Bool) → leb (length bytes - at) 3 ≡ t → t ≡ eqb (length (drop 3 (drop at bytes))) 0
+    go : (t : Bool) → leb (length bytes) (at + 3) ≡ t → t ≡ eqb (length (drop 3 (drop at bytes))) 0
     go true e =
-        let h : length bytes - at ≤ 3 = leb-true _ _ e in
+        let h : length bytes ≤ at + 3 = leb-true _ _ e in
         let z : length (drop 3 (drop at bytes)) ≡ 0 = omega (arith, l) in
         sym (eq-eqb _ _ z)
-    go false e = sym (ne_eqb _ _ (λ (z : length (drop 3 (drop at bytes)) ≡ 0). let h : 3 < length bytes - at = leb-false _ _ e in omega (arith, l, z)))
+    go false e = sym (ne_eqb _ _ (λ (z : length (drop 3 (drop at bytes)) ≡ 0). let h : at + 3 < length bytes = leb-false _ _ e in omega (arith, l, z)))

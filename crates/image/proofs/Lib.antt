@@ -1,5 +1,4 @@
 mod Bench
-pub mod Leaves
 pub mod Bytes
 pub mod Places
 pub mod Outcomes
@@ -7,7 +6,7 @@ pub mod Headers
 pub mod Fields
 pub mod Memories
 mod Machines
-pub mod Heads
+pub mod Stages
 pub mod Inverse
 mod Cuts
 pub mod Loaded

@@ -1,5 +1,5 @@
 -- What is loaded has a version that the writer takes, and is a memory that a run takes.
-use Prim.Native.Nat.{ℕ, zero, suc, ◌+◌, ◌-◌, ◌*◌, ◌≤◌, ◌<◌, min}
+use Prim.Native.Nat.{ℕ, zero, suc, ◌+◌, ◌-◌, ◌*◌, ◌≤◌, min}
 use mathlib.Core.Path.{◌≡◌, refl, sym, ap, ap₂, ◌∙◌}
 use mathlib.Core.Bool.{Bool, true, false, ◌||◌, and-eq-true_iff, true≢false}
 use mathlib.Core.List.{List, [], ◌++◌}
@@ -9,18 +9,17 @@ use lib.ListN.{length, take, drop, length-append}
 use lib.Seq.{take_at}
 use borrow.Author.Tests.{leb-true, eqb-true}
 use Rattle.model.specs.declared.Machine.{Machine}
-use Rattle.model.specs.declared.Verdict.{Verdict}
 use Rattle.model.specs.declared.Verdict.TheVariants.{Accepted}
 use Rattle.model.specs.declared.Refusal.TheVariants.{WrongVersion, BadWordCount, TrailingBytes}
 use Rattle.model.specs.Words.{overlay}
-use Rattle.model.specs.Refusals.{most_words, demand, ◌then◌}
+use Rattle.model.specs.Refusals.{most_words, demand}
 use Rattle.model.proofs.Verdicts.{demanded, both}
 use Rattle.image.specs.declared.ReadAnswer.{ReadAnswer}
 use Rattle.image.specs.declared.ReadResult.{ReadResult}
 use Rattle.image.specs.Bytes.{number_in, words_in}
 use Rattle.image.specs.Format.{Field, version_field, registers_field, flags_field, count_field, words_field, end_field, words_per_field, fields_for, is_version, count_formed}
-use Rattle.image.specs.Reading.{Outcome, loaded, refused, field_verdict, read_field, read_memory, read_head, read_end, read_all, count_fits, read_of}
-use Rattle.image.specs.Calls.{read_result, outcome_words, LeavesWords}
+use Rattle.image.specs.Reading.{Outcome, loaded, refused, field_verdict, read_field, read_memory, read_of}
+use Rattle.image.specs.Calls.{read_result, outcome_words, read_returned, read_words, Reads}
 use Rattle.image.specs.Theorems.{LoadedFits}
 use Rattle.image.proofs.Bytes.{length-words}
 use Rattle.image.proofs.Outcomes.{went_on}
@@ -54,13 +53,13 @@ module _ {version : ℕ} {machine : Machine} {words : List ℕ} where
       (words_in k value ++ g.0, g.1, length-append (words_in k value) g.0 ∙ omega (arith, length-words k value, g.2), g.3)
 
   -- the version and the count that were loaded are those that the rules asked for
-  pub ruled : (known : ℕ → Bool) (fits : ℕ → Verdict) (bytes : List ℕ) → read_all known fits bytes ≡ loaded version machine words → (known version ≡ true) × (fits (length words) ≡ Accepted)
-  unfolding read_all read_head read_end
-  ruled known fits bytes e =
-      let v = past (version_field known) _ bytes e in
+  ruled : (bytes : List ℕ) (room : ℕ) → read_of bytes room ≡ loaded version machine words → (is_version version ≡ true) × (count_formed (length words) ≡ true)
+  unfolding read_of
+  ruled bytes room e =
+      let v = past version_field _ bytes e in
       let r = past registers_field _ _ v.1 in
       let f = past flags_field _ _ r.1 in
-      let c = past (count_field fits) _ _ f.1 in
+      let c = past (count_field room) _ _ f.1 in
       let v₀ : ℕ = number_in (take 1 (drop 3 bytes)) in
       let M : ℕ = number_in (take 4 (drop 3 (drop 7 (drop 35 (drop 4 bytes))))) in
       let m = past_words (fields_for M) M _ _ (fields-enough M) c.1 in
@@ -69,35 +68,30 @@ module _ {version : ℕ} {machine : Machine} {words : List ℕ} where
       let lv : v₀ ≡ version = cc k.1 in
       let lm : m.0 ≡ words = cc k.1 in
       let s : length words ≡ M = ap length (sym lm) ∙ m.2 in
-      (ap known (sym lv) ∙ demanded (known v₀) WrongVersion v.0, ap fits s ∙ c.0)
+      (ap is_version (sym lv) ∙ demanded (is_version v₀) WrongVersion v.0, ap count_formed s ∙ demanded (count_formed M) BadWordCount (both (demand (count_formed M) BadWordCount) _ c.0).0)
 
   pub version-known : (bytes : List ℕ) (room : ℕ) → read_of bytes room ≡ loaded version machine words → is_version version ≡ true
-  unfolding read_of
-  version-known bytes room e = (ruled is_version (count_fits room) bytes e).0
-
--- what a count fits that is neither 0 nor above 16,777,216
-pub count-bounds : (words : ℕ) (v : Verdict) → (demand (count_formed words) BadWordCount then v) ≡ Accepted → (0 < words) × (words ≤ most_words)
-count-bounds words v e =
-    let formed = (and-eq-true_iff (leb 1 words) (leb words most_words)).0 (demanded (count_formed words) BadWordCount (both (demand (count_formed words) BadWordCount) v e).0) in
-    (leb-true 1 words formed.0, leb-true words most_words formed.1)
+  version-known bytes room e = (ruled bytes room e).0
 
 pub loaded-fits : LoadedFits
-unfolding read_of
-loaded-fits room version machine memory bytes e = count-bounds (length memory) _ (ruled is_version (count_fits room) bytes e).1
+loaded-fits room version machine memory bytes e =
+    let fits = (and-eq-true_iff (leb 1 (length memory)) (leb (length memory) most_words)).0 (ruled bytes room e).1 in
+    (leb-true 1 (length memory) fits.0, leb-true (length memory) most_words fits.1)
 
 -- ---- a call that loaded
 
-pub record Loads (o : Outcome) (memory memory' : List ℕ) (r : ReadResult) (count version : ℕ) : Type 0 where
+pub record Loads (bytes memory memory' : List ℕ) (r : ReadResult) (count version : ℕ) : Type 0 where
   pub words : List ℕ
-  pub is : o ≡ loaded version r.machine words
+  pub is : read_of bytes (length memory) ≡ loaded version r.machine words
   pub long : length words ≡ count
   pub whole : memory' ≡ overlay words memory
 
-module _ {o : Outcome} {memory memory' : List ℕ} {r : ReadResult} {count version : ℕ} where
-  pub loads : LeavesWords o memory memory' r → r.answer ≡ ReadAnswer.Loaded count version → Loads o memory memory' r count version
-  loads h e = go o refl
+module _ {bytes memory memory' : List ℕ} {r : ReadResult} {count version : ℕ} where
+  pub loads : Reads bytes memory memory' r → r.answer ≡ ReadAnswer.Loaded count version → Loads bytes memory memory' r count version
+  unfolding read_returned read_words
+  loads h e = go (read_of bytes (length memory)) refl
     where
-      go : (x : Outcome) → o ≡ x → Loads o memory memory' r count version
+      go : (o : Outcome) → read_of bytes (length memory) ≡ o → Loads bytes memory memory' r count version
       go (loaded version₀ machine words) is =
           let k : r ≡ read_result (loaded version₀ machine words) = h.result ∙ ap read_result is in
           let v : version₀ ≡ version = cc in
@@ -105,7 +99,7 @@ module _ {o : Outcome} {memory memory' : List ℕ} {r : ReadResult} {count versi
             words = words;
             is = is ∙ ap₂ (λ (n : ℕ) (x : ReadResult). loaded n x.machine words) v (sym k);
             long = cc;
-            whole = h.words ∙ ap (λ (x : Outcome). outcome_words x memory) is;
+            whole = h.words ∙ ap (λ (o : Outcome). outcome_words o memory) is;
           }
       go (refused why) is =
           let k : r ≡ read_result (refused why) = h.result ∙ ap read_result is in
@@ -113,5 +107,5 @@ module _ {o : Outcome} {memory memory' : List ℕ} {r : ReadResult} {count versi
           absurd (omega arith)
 
   -- its words are the memory's first ones
-  pub first-words : (l : Loads o memory memory' r count version) → take count memory' ≡ l.words
+  pub first-words : (l : Loads bytes memory memory' r count version) → take count memory' ≡ l.words
   first-words l = ap (take count) l.whole ∙ take_at l.words (drop (length l.words) memory) count l.long

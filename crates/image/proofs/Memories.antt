@@ -9,10 +9,10 @@ use lib.Seq.{take_at, drop_at, take_all, length-take-le, drop-drop}
 use Rattle.model.specs.declared.Machine.{Machine}
 use Rattle.model.specs.declared.Verdict.TheVariants.{Accepted}
 use Rattle.image.specs.Bytes.{word_bytes, words_in, Below}
-use Rattle.image.specs.Format.{words_tag, words_field, words_per_field, field_bytes, fields_for, span_of, word_fields}
+use Rattle.image.specs.Format.{words_field, words_per_field, field_bytes, fields_for, span_of, memory_fields}
 use Rattle.image.specs.Reading.{Outcome, loaded, read_memory}
 use Rattle.image.specs.Theorems.{LastField}
-use Rattle.image.proofs.Bytes.{no-elements, below-take, below-drop, below-append, length-word-bytes, length-words, words-below, words-of-bytes, bytes-of-words}
+use Rattle.image.proofs.Bytes.{no-elements, below-take, below-drop, length-word-bytes, length-words, words-of-bytes, bytes-of-words}
 use Rattle.image.proofs.Fields.{length-field, field-goes, field-taken}
 
 pub fields-enough : (words : ℕ) → words ≤ words_per_field * fields_for words
@@ -40,17 +40,17 @@ span_turn at words from count h e =
     let q : words - (from + count) ≡ words - from - count = omega arith in
     ap (λ (n : ℕ). at + 3 + 4 * count + span_of n) q ∙ sym (span_step at (words - from) count (omega arith) e)
 
-pub length-word-fields : (tag n : ℕ) (words : List ℕ) → length words ≤ words_per_field * n → length (word_fields tag n words) ≡ 4 * length words + 3 * n
-unfolding word_fields
-length-word-fields tag zero words h = omega arith
-length-word-fields tag (suc n) words h =
-    let first : List ℕ = take words_per_field words in
-    let more : List ℕ = drop words_per_field words in
-    let ld : length more ≡ length words - words_per_field = length-drop words_per_field words in
-    omega (arith, length-append (field_bytes tag (word_bytes first)) (word_fields tag n more), length-field tag (word_bytes first), length-word-bytes first, length-take words_per_field words, length-word-fields tag n more (omega arith))
+pub length-memory : (n : ℕ) (memory : List ℕ) → length memory ≤ words_per_field * n → length (memory_fields n memory) ≡ 4 * length memory + 3 * n
+unfolding memory_fields
+length-memory zero memory h = omega arith
+length-memory (suc n) memory h =
+    let first : List ℕ = take words_per_field memory in
+    let more : List ℕ = drop words_per_field memory in
+    let ld : length more ≡ length memory - words_per_field = length-drop words_per_field memory in
+    omega (arith, length-append (field_bytes (words_field (length first)) (word_bytes first)) (memory_fields n more), length-field (words_field (length first)) (word_bytes first), length-word-bytes first, length-take words_per_field memory, length-memory n more (omega arith))
 
 -- the first n of a list, and what is left without them, where there may be fewer
-pub least : (n k : ℕ) (l : List ℕ) → k ≡ min n (length l) → (take n l ≡ take k l) × (drop n l ≡ drop k l)
+least : (n k : ℕ) (l : List ℕ) → k ≡ min n (length l) → (take n l ≡ take k l) × (drop n l ≡ drop k l)
 least n k l e = go (dec_le n (length l))
   where
     go : Dec (n ≤ length l) → (take n l ≡ take k l) × (drop n l ≡ drop k l)
@@ -59,9 +59,9 @@ least n k l e = go (dec_le n (length l))
 
 -- the next field of words
 pub next_field : (memory : List ℕ) (from count : ℕ) → from < length memory → count ≡ min words_per_field (length memory - from)
-    → word_fields words_tag (fields_for (length memory - from)) (drop from memory)
-    ≡ field_bytes words_tag (word_bytes (take count (drop from memory))) ++ word_fields words_tag (fields_for (length memory - (from + count))) (drop (from + count) memory)
-unfolding word_fields field_bytes
+    → memory_fields (fields_for (length memory - from)) (drop from memory)
+    ≡ field_bytes (words_field count) (word_bytes (take count (drop from memory))) ++ memory_fields (fields_for (length memory - (from + count))) (drop (from + count) memory)
+unfolding memory_fields field_bytes
 next_field memory from count h e =
     let n : ℕ = length memory - from in
     let n' : ℕ = length memory - (from + count) in
@@ -69,19 +69,19 @@ next_field memory from count h e =
     let one_less : fields_for n ≡ suc (fields_for n') = one-field-less n count (omega arith) e ∙ ap (λ (x : ℕ). suc (fields_for x)) q in
     let k : count ≡ min words_per_field (length (drop from memory)) = e ∙ ap (min words_per_field) (sym (length-drop from memory)) in
     let parts = least words_per_field count (drop from memory) k in
-    ap (λ (x : ℕ). word_fields words_tag x (drop from memory)) one_less
-    ∙ ap₂ (λ (x y : List ℕ). field_bytes words_tag (word_bytes x) ++ word_fields words_tag (fields_for n') y) parts.0 (parts.1 ∙ drop-drop count from memory)
+    ap (λ (x : ℕ). memory_fields x (drop from memory)) one_less
+    ∙ ap₂ (λ (x y : List ℕ). field_bytes (words_field count) (word_bytes x) ++ memory_fields (fields_for n') y) parts.0 (parts.1 ∙ drop-drop count from memory)
 
 -- as many words as are asked for, where they are there
 pub length_part : (memory : List ℕ) (from count : ℕ) → from + count ≤ length memory → length (take count (drop from memory)) ≡ count
 length_part memory from count h = length-take-le count (drop from memory) (omega (arith, length-drop from memory))
 
 pub length-word-field : (memory : List ℕ) (from count : ℕ) → from + count ≤ length memory
-    → length (field_bytes words_tag (word_bytes (take count (drop from memory)))) ≡ 3 + 4 * count
+    → length (field_bytes (words_field count) (word_bytes (take count (drop from memory)))) ≡ 3 + 4 * count
 length-word-field memory from count h =
     let words : List ℕ = take count (drop from memory) in
     let l : length words ≡ count = length_part memory from count h in
-    omega (arith, length-field words_tag (word_bytes words), length-word-bytes words)
+    omega (arith, length-field (words_field count) (word_bytes words), length-word-bytes words)
 
 -- the words of a first field, and what is left
 module _ (words : ℕ) (memory : List ℕ) (l : length memory ≡ words) where
@@ -107,32 +107,31 @@ module _ (words : ℕ) (memory : List ℕ) (l : length memory ≡ words) where
       ap (λ (x : List ℕ). x ++ drop words_per_field memory) w ∙ take-append-drop words_per_field memory
 
 pub memory-goes : (n words : ℕ) (bytes memory rest : List ℕ) (next : List ℕ → List ℕ → Outcome) (o : Outcome)
-    → bytes ≡ word_fields words_tag n memory ++ rest → length memory ≡ words → words ≤ words_per_field * n → Below (2 ^ 32) memory
+    → bytes ≡ memory_fields n memory ++ rest → length memory ≡ words → words ≤ words_per_field * n → Below (2 ^ 32) memory
     → next memory rest ≡ o → read_memory n words bytes next ≡ o
-unfolding read_memory word_fields field_bytes
+unfolding read_memory memory_fields field_bytes
 memory-goes zero words bytes memory rest next o is l h k e =
     ap (next []) is ∙ ap (λ (m : List ℕ). next m rest) (sym (no-elements memory (omega arith))) ∙ e
 memory-goes (suc n) words bytes memory rest next o is l h k e =
     let value : List ℕ = word_bytes (take words_per_field memory) in
     let more : List ℕ = drop words_per_field memory in
     let count : ℕ = min words_per_field words in
-    field-goes (words_field count) value (word_fields words_tag n more ++ rest) (length-first-bytes words memory l) (omega arith) bytes _ Accepted Accepted o
-    (is ∙ append_assoc (field_bytes words_tag value) (word_fields words_tag n more) rest) refl
-    (memory-goes n (words - words_per_field) (word_fields words_tag n more ++ rest) more rest (λ (later end : List ℕ). next (words_in count value ++ later) end) o refl
+    field-goes (words_field count) value (memory_fields n more ++ rest) (length-first-bytes words memory l) (omega arith) bytes _ Accepted Accepted o
+    (is ∙ append_assoc (field_bytes (words_field count) value) (memory_fields n more) rest) refl
+    (memory-goes n (words - words_per_field) (memory_fields n more ++ rest) more rest (λ (later end : List ℕ). next (words_in count value ++ later) end) o refl
     (length_more words memory l) (omega arith) (below-drop _ words_per_field memory k)
     (ap (λ (x : List ℕ). next x rest) (first-and-more words memory l k) ∙ e))
 
 pub record MemoryTaken (n words : ℕ) (bytes : List ℕ) (next : List ℕ → List ℕ → Outcome) (o : Outcome) : Type 0 where
   pub memory : List ℕ
   pub rest : List ℕ
-  pub is : bytes ≡ word_fields words_tag n memory ++ rest
+  pub is : bytes ≡ memory_fields n memory ++ rest
   pub long : length memory ≡ words
-  pub memory-below : Below (2 ^ 32) memory
   pub rest_below : Below 256 rest
   pub goes : next memory rest ≡ o
 
 -- the words of a first field and those of the rest, told apart again
-pub parted : (words : ℕ) (a b : List ℕ) → length a ≡ min words_per_field words → length b ≡ words - words_per_field
+parted : (words : ℕ) (a b : List ℕ) → length a ≡ min words_per_field words → length b ≡ words - words_per_field
     → (take words_per_field (a ++ b) ≡ a) × (drop words_per_field (a ++ b) ≡ b)
 parted words a b la lb = go (dec_le words_per_field words)
   where
@@ -143,25 +142,25 @@ parted words a b la lb = go (dec_le words_per_field words)
         let j : a ++ b ≡ a = ap (λ (x : List ℕ). a ++ x) e ∙ append-nil a in
         (ap (take words_per_field) j ∙ take_all words_per_field a (omega arith), ap (drop words_per_field) j ∙ drop_of_length-le a {i = words_per_field} (omega arith) ∙ sym e)
 
-pub no_fields : (tag : ℕ) (bytes : List ℕ) → bytes ≡ word_fields tag 0 [] ++ bytes
-unfolding word_fields
-no_fields tag bytes = refl
+no_fields : (bytes : List ℕ) → bytes ≡ memory_fields 0 [] ++ bytes
+unfolding memory_fields
+no_fields bytes = refl
 
 -- a first field and the fields after it
-pub fields_join : (tag n : ℕ) (bytes value rest rest' first more : List ℕ) → bytes ≡ field_bytes tag value ++ rest → rest ≡ word_fields tag n more ++ rest'
-    → word_bytes first ≡ value → take words_per_field (first ++ more) ≡ first → drop words_per_field (first ++ more) ≡ more → bytes ≡ word_fields tag (suc n) (first ++ more) ++ rest'
-unfolding word_fields
-fields_join tag n bytes value rest rest' first more is more-is w p q =
+fields_join : (n count : ℕ) (bytes value rest rest' first more : List ℕ) → bytes ≡ field_bytes (words_field count) value ++ rest → rest ≡ memory_fields n more ++ rest'
+    → word_bytes first ≡ value → take words_per_field (first ++ more) ≡ first → drop words_per_field (first ++ more) ≡ more → bytes ≡ memory_fields (suc n) (first ++ more) ++ rest'
+unfolding memory_fields field_bytes
+fields_join n count bytes value rest rest' first more is more-is w p q =
     is
-    ∙ ap₂ (λ (x y : List ℕ). field_bytes tag x ++ y) (sym w ∙ ap word_bytes (sym p)) (more-is ∙ ap (λ (x : List ℕ). word_fields tag n x ++ rest') (sym q))
-    ∙ sym (append_assoc (field_bytes tag (word_bytes (take words_per_field (first ++ more)))) (word_fields tag n (drop words_per_field (first ++ more))) rest')
+    ∙ ap₂ (λ (x y : List ℕ). field_bytes (words_field count) x ++ y) (sym w ∙ ap word_bytes (sym p)) (more-is ∙ ap (λ (x : List ℕ). memory_fields n x ++ rest') (sym q))
+    ∙ sym (append_assoc (field_bytes (words_field count) (word_bytes (take words_per_field (first ++ more)))) (memory_fields n (drop words_per_field (first ++ more))) rest')
 
 module _ {version : ℕ} {machine : Machine} {loads : List ℕ} where
   pub memory-taken : (n words : ℕ) (next : List ℕ → List ℕ → Outcome) (bytes : List ℕ) → words ≤ words_per_field * n → Below 256 bytes
       → read_memory n words bytes next ≡ loaded version machine loads → MemoryTaken n words bytes next (loaded version machine loads)
   unfolding read_memory
   memory-taken zero words next bytes h k e =
-      record { memory = []; rest = bytes; is = no_fields words_tag bytes; long = omega arith; memory-below = tt; rest_below = k; goes = e }
+      record { memory = []; rest = bytes; is = no_fields bytes; long = omega arith; rest_below = k; goes = e }
   memory-taken (suc n) words next bytes h k e =
       let count : ℕ = min words_per_field words in
       let f = field-taken (words_field count) _ bytes k e in
@@ -172,9 +171,8 @@ module _ {version : ℕ} {machine : Machine} {loads : List ℕ} where
       record {
         memory = first ++ g.memory;
         rest = g.rest;
-        is = fields_join words_tag n bytes f.value f.rest g.rest first g.memory f.is g.is (bytes-of-words count f.value f.long f.value-below) p.0 p.1;
+        is = fields_join n count bytes f.value f.rest g.rest first g.memory f.is g.is (bytes-of-words count f.value f.long f.value-below) p.0 p.1;
         long = length-append first g.memory ∙ ap₂ (λ (x y : ℕ). x + y) lf g.long ∙ omega arith;
-        memory-below = below-append _ first g.memory (words-below count f.value f.value-below) g.memory-below;
         rest_below = g.rest_below;
         goes = g.goes;
       }

@@ -1,9 +1,8 @@
 -- The worked images of one word: 63 bytes load, 62 give 8, 64 give 15. Document 01, "Bench words". CR 1: the versions.
 use Rattle.std.specs.Prelude.{ℕ, List, [], ◌∷◌, ◌++◌, take, replicate}
-use Rattle.model.specs.Refusals.{verdict_number}
 use Rattle.image.specs.Format.{image_of}
 use Rattle.image.specs.Reading.{read_of}
-use Rattle.image.specs.Calls.{write_verdict, cleared_machine, outcome_number}
+use Rattle.image.specs.Calls.{write_number, write_returned, cleared_machine, outcome_number}
 
 abbrev pub smallest : List ℕ
 smallest = image_of 1 cleared_machine (0x0001_3C21 ∷ [])
@@ -24,4 +23,4 @@ abbrev pub written_numbers : (places : ℕ) → List ℕ
 written_numbers places = number 0 ∷ number 1 ∷ number 2 ∷ number 3 ∷ []
   where
     number : ℕ → ℕ
-    number version = verdict_number (write_verdict (0 ∷ []) version (image_of version cleared_machine (0 ∷ [])) (replicate places 0))
+    number version = write_number (write_returned (0 ∷ []) cleared_machine version (replicate places 0))

@@ -1,6 +1,5 @@
 -- The writer and the reader as calls: what is refused (1, 2 and 7 to 15), what is answered, and every lent byte and word
 -- afterwards. Document 01, "Image" and "Why a call is turned down"; CR 1.
--- The two records serve the calls with a base too (CR 12).
 use Rattle.std.specs.Prelude.{ℕ, ◌≡◌, List, leb, length, replicate}
 use Rattle.model.specs.declared.Machine.{Machine}
 use Rattle.model.specs.declared.Refusal.TheVariants.{ShortOutput, WrongVersion}
@@ -16,7 +15,12 @@ use Rattle.image.specs.declared.ReadResult.{ReadResult}
 use Rattle.image.specs.Format.{is_version, image_of}
 use Rattle.image.specs.Reading.{Outcome, loaded, refused, read_of}
 
--- ---- what a call leaves
+-- ---- the writer
+
+-- 1, 2, 7, 11
+unfoldable pub write_verdict : (memory : List ℕ) (version : ℕ) (image out : List ℕ) → Verdict
+write_verdict memory version image out =
+    memory_fits memory then demand (leb (length image) (length out)) ShortOutput then demand (is_version version) WrongVersion
 
 abbrev pub write_result : Verdict → (image : List ℕ) → WriteAnswer
 write_result Accepted image = WriteAnswer.Written (length image)
@@ -36,12 +40,24 @@ abbrev pub write_size : WriteAnswer → ℕ
 write_size (WriteAnswer.Written size) = size
 write_size (WriteAnswer.Refused why) = 0
 
--- what a call answers and leaves that puts an image to the front of an output where its verdict is to carry it out
-pub record LeavesBytes (v : Verdict) (image out out' : List ℕ) (r : WriteAnswer) : Type 0 where
-  pub result : r ≡ write_result v image
-  pub bytes : out' ≡ left_by v (overlay image out) out
-  pub number : write_number r ≡ verdict_number v
-  pub size : write_size r ≡ verdict_size v image
+-- what a write returns, and the bytes that it leaves
+unfoldable pub write_returned : (memory : List ℕ) → Machine → (version : ℕ) → (out : List ℕ) → WriteAnswer
+write_returned memory machine version out =
+    let image = image_of version machine memory in
+    write_result (write_verdict memory version image out) image
+
+unfoldable pub write_bytes : (memory : List ℕ) → Machine → (version : ℕ) → (out : List ℕ) → List ℕ
+write_bytes memory machine version out =
+    let image = image_of version machine memory in
+    left_by (write_verdict memory version image out) (overlay image out) out
+
+pub record Writes (memory : List ℕ) (machine : Machine) (version : ℕ) (out out' : List ℕ) (r : WriteAnswer) : Type 0 where
+  pub result : r ≡ write_returned memory machine version out
+  pub bytes : out' ≡ write_bytes memory machine version out
+  pub number : write_number r ≡ verdict_number (write_verdict memory version (image_of version machine memory) out)
+  pub size : write_size r ≡ verdict_size (write_verdict memory version (image_of version machine memory) out) (image_of version machine memory)
+
+-- ---- the reader
 
 -- a refused read returns registers 0 and flags false
 abbrev pub cleared_machine : Machine
@@ -82,29 +98,16 @@ abbrev pub read_version : ReadAnswer → ℕ
 read_version (ReadAnswer.Loaded words version) = version
 read_version (ReadAnswer.Refused why) = 0
 
--- what a call answers and leaves that loads what reading comes to
-pub record LeavesWords (o : Outcome) (memory memory' : List ℕ) (r : ReadResult) : Type 0 where
-  pub result : r ≡ read_result o
-  pub words : memory' ≡ outcome_words o memory
-  pub number : read_number r.answer ≡ outcome_number o
-  pub count : read_count r.answer ≡ outcome_count o
-  pub version : read_version r.answer ≡ outcome_version o
+-- what a read returns, and the memory that it leaves
+unfoldable pub read_returned : (bytes memory : List ℕ) → ReadResult
+read_returned bytes memory = read_result (read_of bytes (length memory))
 
--- ---- the writer
+unfoldable pub read_words : (bytes memory : List ℕ) → List ℕ
+read_words bytes memory = outcome_words (read_of bytes (length memory)) memory
 
--- 7
-abbrev pub room_for : (image out : List ℕ) → Verdict
-room_for image out = demand (leb (length image) (length out)) ShortOutput
-
--- 1, 2, 7, 11
-unfoldable pub write_verdict : (memory : List ℕ) (version : ℕ) (image out : List ℕ) → Verdict
-write_verdict memory version image out = memory_fits memory then room_for image out then demand (is_version version) WrongVersion
-
-abbrev pub Writes : (memory : List ℕ) → Machine → (version : ℕ) → (out out' : List ℕ) → WriteAnswer → Type 0
-Writes memory machine version out out' r =
-    LeavesBytes (write_verdict memory version (image_of version machine memory) out) (image_of version machine memory) out out' r
-
--- ---- the reader
-
-abbrev pub Reads : (bytes memory memory' : List ℕ) → ReadResult → Type 0
-Reads bytes memory memory' r = LeavesWords (read_of bytes (length memory)) memory memory' r
+pub record Reads (bytes memory memory' : List ℕ) (r : ReadResult) : Type 0 where
+  pub result : r ≡ read_returned bytes memory
+  pub words : memory' ≡ read_words bytes memory
+  pub number : read_number r.answer ≡ outcome_number (read_of bytes (length memory))
+  pub count : read_count r.answer ≡ outcome_count (read_of bytes (length memory))
+  pub version : read_version r.answer ≡ outcome_version (read_of bytes (length memory))

@@ -2,11 +2,11 @@
 -- turned down"; CR 1.
 use Rattle.std.specs.Prelude.{ℕ, zero, suc, ◌+◌, ◌-◌, ◌*◌, ◌/◌, Bool, ◌&&◌, ◌||◌, List, [], ◌∷◌, ◌++◌, eqb, leb, length, get_or, take, drop}
 use Rattle.model.specs.declared.Machine.{Machine}
-use Rattle.model.specs.declared.Refusal.TheVariants.{WrongVersion, BadFlag}
+use Rattle.model.specs.declared.Refusal.TheVariants.{WrongVersion, BadFlag, BadWordCount, ShortMemory}
 use Rattle.model.specs.declared.Verdict.{Verdict}
 use Rattle.model.specs.declared.Verdict.TheVariants.{Accepted}
 use Rattle.model.specs.Packed.{flag_numbers}
-use Rattle.model.specs.Refusals.{demand, most_words}
+use Rattle.model.specs.Refusals.{demand, ◌then◌, most_words}
 use Rattle.image.specs.Bytes.{bytes_of, number_in, word_bytes}
 
 -- ---- a field
@@ -18,32 +18,12 @@ pub record Field : Type 0 where
   pub rule : (value : List ℕ) → Verdict
 
 -- one-byte tag, two-byte length, value
-unfoldable pub field_bytes : (tag : ℕ) → (value : List ℕ) → List ℕ
-field_bytes tag value = tag ∷ (bytes_of 2 (length value) ++ value)
-
--- ---- the tags
-
-abbrev pub version_tag : ℕ
-version_tag = 0x01
-
-abbrev pub registers_tag : ℕ
-registers_tag = 0x02
-
-abbrev pub flags_tag : ℕ
-flags_tag = 0x03
-
-abbrev pub count_tag : ℕ
-count_tag = 0x04
-
-abbrev pub words_tag : ℕ
-words_tag = 0x05
-
-abbrev pub end_tag : ℕ
-end_tag = 0xFF
+unfoldable pub field_bytes : Field → List ℕ → List ℕ
+field_bytes f value = f.tag ∷ (bytes_of 2 (length value) ++ value)
 
 -- ---- the fields
 
--- CR 1: the versions of an image of all words, which differ in their rule for traverses alone
+-- CR 1: the versions of an image, which differ in their rule for traverses alone
 abbrev pub is_version : ℕ → Bool
 is_version version = eqb version 1 || eqb version 2
 
@@ -55,26 +35,30 @@ flags_formed flags = leb (get_or flags 0 0) 1 && leb (get_or flags 1 0) 1 && leb
 abbrev pub count_formed : ℕ → Bool
 count_formed words = leb 1 words && leb words most_words
 
--- the version, one of some
-abbrev pub version_field : (known : ℕ → Bool) → Field
-version_field known = record { tag = version_tag; due = 1; rule = λ value. demand (known (number_in value)) WrongVersion }
+abbrev pub version_field : Field
+version_field = record { tag = 0x01; due = 1; rule = λ value. demand (is_version (number_in value)) WrongVersion }
 
 abbrev pub registers_field : Field
-registers_field = record { tag = registers_tag; due = 32; rule = λ value. Accepted }
+registers_field = record { tag = 0x02; due = 32; rule = λ value. Accepted }
 
 abbrev pub flags_field : Field
-flags_field = record { tag = flags_tag; due = 4; rule = λ value. demand (flags_formed value) BadFlag }
+flags_field = record { tag = 0x03; due = 4; rule = λ value. demand (flags_formed value) BadFlag }
 
--- M, of which something is demanded
-abbrev pub count_field : (fits : ℕ → Verdict) → Field
-count_field fits = record { tag = count_tag; due = 4; rule = λ value. fits (number_in value) }
+-- M, for a lent memory of so many words
+abbrev pub count_field : (room : ℕ) → Field
+count_field room =
+    record {
+      tag = 0x04;
+      due = 4;
+      rule = λ value. demand (count_formed (number_in value)) BadWordCount then demand (leb (number_in value) room) ShortMemory;
+    }
 
 -- a field of so many words
 abbrev pub words_field : ℕ → Field
-words_field words = record { tag = words_tag; due = 4 * words; rule = λ value. Accepted }
+words_field words = record { tag = 0x05; due = 4 * words; rule = λ value. Accepted }
 
 abbrev pub end_field : Field
-end_field = record { tag = end_tag; due = 0; rule = λ value. Accepted }
+end_field = record { tag = 0xFF; due = 0; rule = λ value. Accepted }
 
 -- ---- the words of a memory
 
@@ -89,26 +73,20 @@ fields_for words = (words + (words_per_field - 1)) / words_per_field
 abbrev pub span_of : ℕ → ℕ
 span_of words = 4 * words + 3 * fields_for words
 
--- where an image of all words has the word at an address: after the head, the words before it and the headers of the fields
-abbrev pub word_place : (address : ℕ) → ℕ
-word_place address = 56 + 4 * address + 3 * (address / words_per_field)
-
--- so many fields of words with a tag, the last with what remains
-unfoldable pub word_fields : (tag fields : ℕ) → (words : List ℕ) → List ℕ
-word_fields tag zero words = []
-word_fields tag (suc n) words = field_bytes tag (word_bytes (take words_per_field words)) ++ word_fields tag n (drop words_per_field words)
+-- so many fields of words, the last with what remains
+unfoldable pub memory_fields : ℕ → List ℕ → List ℕ
+memory_fields zero words = []
+memory_fields (suc n) words =
+    field_bytes (words_field (length (take words_per_field words))) (word_bytes (take words_per_field words))
+    ++ memory_fields n (drop words_per_field words)
 
 -- ---- the image
 
--- the head, of a memory of so many words, and the bytes after it
-unfoldable pub with_head : (version : ℕ) → Machine → (words : ℕ) → (rest : List ℕ) → List ℕ
-with_head version machine words rest =
-    field_bytes version_tag (version ∷ [])
-    ++ (field_bytes registers_tag (word_bytes machine.regs)
-    ++ (field_bytes flags_tag (flag_numbers machine.flags)
-    ++ (field_bytes count_tag (bytes_of 4 words)
-    ++ rest)))
-
 unfoldable pub image_of : (version : ℕ) → Machine → (memory : List ℕ) → List ℕ
 image_of version machine memory =
-    with_head version machine (length memory) (word_fields words_tag (fields_for (length memory)) memory ++ field_bytes end_tag [])
+    field_bytes version_field (version ∷ [])
+    ++ (field_bytes registers_field (word_bytes machine.regs)
+    ++ (field_bytes flags_field (flag_numbers machine.flags)
+    ++ (field_bytes (count_field (length memory)) (bytes_of 4 (length memory))
+    ++ (memory_fields (fields_for (length memory)) memory
+    ++ field_bytes end_field []))))

@@ -1,14 +1,14 @@
 -- Reading an image: the fields are taken one by one, and the first that is not in order is the answer (8 to 15). Document 01,
 -- "Image" and "Why a call is turned down".
-use Rattle.std.specs.Prelude.{ℕ, zero, suc, ◌+◌, ◌-◌, min, Bool, List, [], ◌++◌, eqb, leb, length, get_or, take, drop}
+use Rattle.std.specs.Prelude.{ℕ, zero, suc, ◌+◌, ◌-◌, min, List, [], ◌++◌, eqb, leb, length, get_or, take, drop}
 use Rattle.model.specs.declared.Machine.{Machine}
 use Rattle.model.specs.declared.Refusal.{Refusal}
-use Rattle.model.specs.declared.Refusal.TheVariants.{CutImage, WrongTag, WrongLength, BadWordCount, ShortMemory, TrailingBytes}
+use Rattle.model.specs.declared.Refusal.TheVariants.{CutImage, WrongTag, WrongLength, TrailingBytes}
 use Rattle.model.specs.declared.Verdict.{Verdict}
 use Rattle.model.specs.declared.Verdict.TheVariants.{Accepted, Refused}
 use Rattle.model.specs.Refusals.{demand, ◌then◌}
 use Rattle.image.specs.Bytes.{number_in, words_in}
-use Rattle.image.specs.Format.{Field, is_version, count_formed, version_field, registers_field, flags_field, count_field, words_field, end_field, words_per_field, fields_for}
+use Rattle.image.specs.Format.{Field, version_field, registers_field, flags_field, count_field, words_field, end_field, words_per_field, fields_for}
 
 -- what comes of reading: a version, a machine and its memory, or why not
 pub data Outcome : Type 0 where
@@ -52,33 +52,14 @@ machine_from registers flags =
       flags = record { carry = eqb (get_or flags 0 0) 1; overflow = eqb (get_or flags 1 0) 1; negative = eqb (get_or flags 2 0) 1; zero = eqb (get_or flags 3 0) 1 };
     }
 
--- take the head, and go on with its version, machine and M and the bytes after it
-unfoldable pub read_head : (known : ℕ → Bool) → (fits : ℕ → Verdict) → List ℕ → (ℕ → Machine → ℕ → List ℕ → Outcome) → Outcome
-read_head known fits bytes next =
-    read_field (version_field known) bytes λ version after_version.
-    read_field registers_field after_version λ registers after_registers.
-    read_field flags_field after_registers λ flags after_flags.
-    read_field (count_field fits) after_flags λ count after_count.
-    next (number_in version) (machine_from registers flags) (number_in count) after_count
-
--- take the end, after which nothing may follow
-unfoldable pub read_end : List ℕ → Outcome → Outcome
-read_end bytes outcome =
-    read_field end_field bytes λ nothing rest.
-    demand (eqb (length rest) 0) TrailingBytes
-    ▷ outcome
-
--- the image of all words in the bytes, of some versions, with what is demanded of M
-unfoldable pub read_all : (known : ℕ → Bool) → (fits : ℕ → Verdict) → List ℕ → Outcome
-read_all known fits bytes =
-    read_head known fits bytes λ version machine words after_count.
-    read_memory (fields_for words) words after_count λ memory after_memory.
-    read_end after_memory (loaded version machine memory)
-
--- 13 and 14, of M and a lent memory of so many words
-abbrev pub count_fits : (room words : ℕ) → Verdict
-count_fits room words = demand (count_formed words) BadWordCount then demand (leb words room) ShortMemory
-
 -- the image in the bytes, for a lent memory of so many words
 unfoldable pub read_of : List ℕ → (room : ℕ) → Outcome
-read_of bytes room = read_all is_version (count_fits room) bytes
+read_of bytes room =
+    read_field version_field bytes λ version after_version.
+    read_field registers_field after_version λ registers after_registers.
+    read_field flags_field after_registers λ flags after_flags.
+    read_field (count_field room) after_flags λ count after_count.
+    read_memory (fields_for (number_in count)) (number_in count) after_count λ memory after_memory.
+    read_field end_field after_memory λ nothing rest.
+    demand (eqb (length rest) 0) TrailingBytes
+    ▷ loaded (number_in version) (machine_from registers flags) memory

@@ -1,6 +1,6 @@
 // Images of the FM8502: the answers of the writer and of the reader. specs/ says what an image is.
 ghost use Rattle.std.specs.Prelude.{◌≡◌, min};
-ghost use Rattle.image.specs.Format.{is_version, words_per_field, word_place};
+ghost use Rattle.image.specs.Format.{is_version, words_per_field};
 
 use model::{Machine, Refusal};
 
@@ -42,12 +42,4 @@ pub fn words_in_field(left: usize) -> usize
     } else {
         left
     }
-}
-
-// Where an image of all words has the word at an address.
-pub fn word_place(address: u32) -> usize
-    ensures { result ≡ word_place address }
-{
-    let i = address as usize;
-    56 + 4 * i + 3 * (i / WORDS_PER_FIELD)
 }

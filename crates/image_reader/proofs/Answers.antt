@@ -1,7 +1,7 @@
 -- What the reader answers, from what its two passes did.
 use Prim.Native.Nat.{ℕ, ◌+◌, ◌≤◌}
 use mathlib.Core.Path.{◌≡◌, refl, sym, ap, ◌∙◌}
-use mathlib.Core.Bool.{Bool, and-eq-true_iff}
+use mathlib.Core.Bool.{and-eq-true_iff}
 use mathlib.Core.List.{List}
 use native.Mathlib.Omega.{arith}
 use lib.Dec.{eqb, leb}
@@ -17,78 +17,79 @@ use Rattle.model.specs.Refusals.{demand, ◌then◌, most_words}
 use Rattle.model.proofs.Stores.{overlaid}
 use Rattle.model.proofs.Verdicts.{demanded, both}
 use Rattle.image.specs.declared.ReadAnswer.{ReadAnswer}
-use Rattle.image.specs.Format.{is_version, version_field, registers_field, flags_field, count_field, end_field, count_formed, fields_for, span_of}
-use Rattle.image.specs.Reading.{loaded, refused, ◌▷◌, field_verdict, count_fits, read_of}
-use Rattle.image.specs.Calls.{cleared_machine, outcome_words, Reads}
-use Rattle.image.proofs.Leaves.{leaves-words}
+use Rattle.image.specs.Format.{version_field, registers_field, flags_field, count_field, end_field, count_formed, fields_for, span_of}
+use Rattle.image.specs.Reading.{Outcome, loaded, refused, ◌▷◌, field_verdict, read_of}
+use Rattle.image.specs.Calls.{cleared_machine, read_result, outcome_words, outcome_number, outcome_count, outcome_version, read_number, read_count, read_version, read_returned, read_words, Reads}
 use Rattle.image.proofs.Fields.{facts}
 use Rattle.image.proofs.Memories.{fields-enough}
-use Rattle.image_reader.specs.Passes.{image_version, image_count, image_machine, image_memory, head_verdict, memory_verdict, end_verdict, tail_verdict, all_verdict, image_verdict}
-use Rattle.image_reader.proofs.Head.{head-asks}
+use Rattle.image_reader.specs.Passes.{image_version, image_count, image_machine, image_memory, head_verdict, memory_verdict, end_verdict, tail_verdict, image_verdict}
 use Rattle.image_reader.proofs.Passes.{image_words, by-passes, length-image-memory}
 
 -- what an accepted head shows of the word count
-pub head-accepted : (bytes : List ℕ) (room : ℕ) → head_verdict is_version (count_fits room) bytes ≡ Accepted → (image_count bytes ≤ most_words) × (image_count bytes ≤ room)
+pub head_accepted : (bytes : List ℕ) (room : ℕ) → head_verdict bytes room ≡ Accepted → (image_count bytes ≤ most_words) × (image_count bytes ≤ room)
 unfolding head_verdict
-head-accepted bytes room e =
+head_accepted bytes room e =
     let M : ℕ = image_count bytes in
-    let e₁ = (both (field_verdict (version_field is_version) bytes) _ e).1 in
+    let e₁ = (both (field_verdict version_field bytes) _ e).1 in
     let e₂ = (both (field_verdict registers_field (drop 4 bytes)) _ e₁).1 in
     let e₃ = (both (field_verdict flags_field (drop 39 bytes)) _ e₂).1 in
-    let e₄ = (facts (count_field (count_fits room)) (drop 46 bytes) e₃).4 in
+    let e₄ = (facts (count_field room) (drop 46 bytes) e₃).4 in
     let e₅ : (demand (count_formed M) BadWordCount then demand (leb M room) ShortMemory) ≡ Accepted = rw drop-drop at e₄ in
     let e₆ = both (demand (count_formed M) BadWordCount) (demand (leb M room) ShortMemory) e₅ in
     (leb-true _ _ ((and-eq-true_iff (leb 1 M) (leb M most_words)).0 (demanded _ BadWordCount e₆.0)).1, leb-true _ _ (demanded _ ShortMemory e₆.1))
 
 -- the verdict on the whole, by the verdict on the head
-pub refused-head : (known : ℕ → Bool) (fits : ℕ → Verdict) (bytes : List ℕ) {why : Refusal} → Refused why ≡ head_verdict known fits bytes → Refused why ≡ all_verdict known fits bytes
-refused-head known fits bytes e = ap (λ (v : Verdict). v then tail_verdict (image_count bytes) 53 bytes) e
+pub refused-head : (bytes : List ℕ) (room : ℕ) {why : Refusal} → Refused why ≡ head_verdict bytes room → Refused why ≡ image_verdict bytes room
+refused-head bytes room e = ap (λ (v : Verdict). v then tail_verdict (image_count bytes) 53 bytes) e
 
-pub accepted-head : (known : ℕ → Bool) (fits : ℕ → Verdict) (bytes : List ℕ) (words : ℕ) {v : Verdict} → Accepted ≡ head_verdict known fits bytes → words ≡ image_count bytes
-    → v ≡ tail_verdict words 53 bytes → v ≡ all_verdict known fits bytes
-accepted-head known fits bytes words e p q =
+pub accepted-head : (bytes : List ℕ) (room words : ℕ) {v : Verdict} → Accepted ≡ head_verdict bytes room → words ≡ image_count bytes → v ≡ tail_verdict words 53 bytes
+    → v ≡ image_verdict bytes room
+accepted-head bytes room words e p q =
     q ∙ ap (λ (n : ℕ). tail_verdict n 53 bytes) p ∙ ap (λ (u : Verdict). u then tail_verdict (image_count bytes) 53 bytes) e
 
--- the verdict asks of the version and of the count what they are in these bytes
-pub all-asks : (known : ℕ → Bool) (fits : ℕ → Verdict) (bytes : List ℕ) {t : Bool} {v : Verdict} → t ≡ known (image_version bytes) → v ≡ fits (image_count bytes)
-    → all_verdict (λ (version : ℕ). t) (λ (words : ℕ). v) bytes ≡ all_verdict known fits bytes
-all-asks known fits bytes p q = ap (λ (u : Verdict). u then tail_verdict (image_count bytes) 53 bytes) (head-asks known fits bytes p q)
-
 -- an accepted end field lies within the bytes
-pub end-accepted : (at : ℕ) (bytes : List ℕ) → end_verdict (drop at bytes) ≡ Accepted → at ≤ length bytes
+end-accepted : (at : ℕ) (bytes : List ℕ) → end_verdict (drop at bytes) ≡ Accepted → at ≤ length bytes
 unfolding end_verdict
 end-accepted at bytes e =
     let b : List ℕ = drop at bytes in
     let f = (both (field_verdict end_field b) (demand (eqb (length (drop 3 b)) 0) TrailingBytes) e).0 in
     omega (arith, (facts end_field b f).0, length-drop at bytes)
 
--- what an accepted head shows: its count fits, and its registers are there
-pub head-shows : (known : ℕ → Bool) (fits : ℕ → Verdict) (bytes : List ℕ) → head_verdict known fits bytes ≡ Accepted → (fits (image_count bytes) ≡ Accepted) × (39 ≤ length bytes)
-unfolding head_verdict
-head-shows known fits bytes e =
-    let e₁ = both (field_verdict (version_field known) bytes) _ e in
-    let e₂ = both (field_verdict registers_field (drop 4 bytes)) _ e₁.1 in
-    let e₃ = both (field_verdict flags_field (drop 39 bytes)) _ e₂.1 in
-    let count : fits (image_count bytes) ≡ Accepted = rw drop-drop at (facts (count_field fits) (drop 46 bytes) e₃.1).4 in
-    (count, omega (arith, (facts registers_field (drop 4 bytes) e₂.0).3, length-drop 4 bytes))
-
--- what an accepted tail shows: all words are there
-pub tail_shows : (words : ℕ) (bytes : List ℕ) → tail_verdict words 53 bytes ≡ Accepted → 53 + span_of words ≤ length bytes
-unfolding tail_verdict
-tail_shows words bytes e = end-accepted (53 + span_of words) bytes (both (memory_verdict (fields_for words) words (drop 53 bytes)) (end_verdict (drop (53 + span_of words) bytes)) e).1
-
 -- what an accepted image shows for the second pass
 pub image-accepted : (bytes : List ℕ) (room : ℕ) → image_verdict bytes room ≡ Accepted → (53 + span_of (image_count bytes) ≤ length bytes) × (image_count bytes ≤ room)
 unfolding tail_verdict
 image-accepted bytes room e =
     let M : ℕ = image_count bytes in
-    let p = both (head_verdict is_version (count_fits room) bytes) (tail_verdict M 53 bytes) e in
+    let p = both (head_verdict bytes room) (tail_verdict M 53 bytes) e in
     let q = both (memory_verdict (fields_for M) M (drop 53 bytes)) (end_verdict (drop (53 + span_of M) bytes)) p.1 in
-    (end-accepted (53 + span_of M) bytes q.1, (head-accepted bytes room p.0).1)
+    (end-accepted (53 + span_of M) bytes q.1, (head_accepted bytes room p.0).1)
 
 -- ---- the contract
 
 module _ (bytes memory : List ℕ) where
+  judged : (o : Outcome) (memory' : List ℕ) → o ≡ read_of bytes (length memory) → memory' ≡ outcome_words o memory → Reads bytes memory memory' (read_result o)
+  unfolding read_returned read_words
+  judged o memory' e w =
+      record {
+        result = ap read_result e;
+        words = w ∙ ap (λ (x : Outcome). outcome_words x memory) e;
+        number = numbered o ∙ ap outcome_number e;
+        count = counted o ∙ ap outcome_count e;
+        version = told o ∙ ap outcome_version e;
+      }
+    where
+      numbered : (o : Outcome) → read_number (read_result o).answer ≡ outcome_number o
+      numbered (loaded version machine words) = refl
+      numbered (refused why) = refl
+
+      counted : (o : Outcome) → read_count (read_result o).answer ≡ outcome_count o
+      counted (loaded version machine words) = refl
+      counted (refused why) = refl
+
+      told : (o : Outcome) → read_version (read_result o).answer ≡ outcome_version o
+      told (loaded version machine words) = refl
+      told (refused why) = refl
+
   -- the outcome of a verdict
   outcome : (v : Verdict) → v ≡ image_verdict bytes (length memory) → (v ▷ loaded (image_version bytes) (image_machine bytes) (image_words bytes)) ≡ read_of bytes (length memory)
   outcome v e = ap (λ (x : Verdict). x ▷ loaded (image_version bytes) (image_machine bytes) (image_words bytes)) e ∙ sym (by-passes bytes (length memory))
@@ -96,7 +97,8 @@ module _ (bytes memory : List ℕ) where
   pub read-refused : (why : Refusal) (m : Machine) → Refused why ≡ image_verdict bytes (length memory) → m ≡ cleared_machine
       → Reads bytes memory memory (record { answer = ReadAnswer.Refused why; machine = m })
   read-refused why m e p =
-      leaves-words (refused why) _ memory memory _ (outcome (Refused why) e) (λ i. record { answer = ReadAnswer.Refused why; machine = p i }) refl
+      let r = judged (refused why) memory (outcome (Refused why) e) refl in
+      record { result = (λ i. record { answer = ReadAnswer.Refused why; machine = p i }) ∙ r.result; words = r.words; number = r.number; count = r.count; version = r.version }
 
   pub read-carried : (memory' : List ℕ) (n version : ℕ) (m : Machine) → Accepted ≡ image_verdict bytes (length memory) → n ≡ image_count bytes → version ≡ image_version bytes → m ≡ image_machine bytes
       → memory' ≡ sets memory 0 (image_memory (fields_for n) n (drop 53 bytes)) → Reads bytes memory memory' (record { answer = ReadAnswer.Loaded n version; machine = m })
@@ -106,6 +108,12 @@ module _ (bytes memory : List ℕ) where
       let fits : length (image_words bytes) ≤ length memory = omega (arith, (image-accepted bytes (length memory) (sym e)).1) in
       let w : memory' ≡ outcome_words (loaded (image_version bytes) (image_machine bytes) (image_words bytes)) memory =
       q ∙ ap (λ (k : ℕ). sets memory 0 (image_memory (fields_for k) k (drop 53 bytes))) c ∙ overlaid memory (image_words bytes) fits in
+      let r = judged (loaded (image_version bytes) (image_machine bytes) (image_words bytes)) memory' (outcome Accepted e) w in
       let n≡ : n ≡ length (image_words bytes) = c ∙ sym l in
-      leaves-words (loaded (image_version bytes) (image_machine bytes) (image_words bytes)) _ memory memory' _ (outcome Accepted e)
-      (λ i. record { answer = ReadAnswer.Loaded (n≡ i) (v i); machine = p i }) w
+      record {
+        result = (λ i. record { answer = ReadAnswer.Loaded (n≡ i) (v i); machine = p i }) ∙ r.result;
+        words = r.words;
+        number = r.number;
+        count = n≡ ∙ r.count;
+        version = v ∙ r.version;
+      }

@@ -3,17 +3,21 @@ use Prim.Native.Nat.{ℕ, ◌+◌}
 use mathlib.Core.Path.{◌≡◌, refl, sym, ap, ap₂, ◌∙◌}
 use mathlib.Core.Bool.{Bool}
 use mathlib.Core.List.{List}
+use lib.Dec.{leb}
 use lib.ListN.{take, drop, get_or}
 use lib.Seq.{get_or-drop, drop-drop}
-use Rattle.model.specs.declared.Refusal.TheVariants.{WrongVersion, BadFlag}
+use Rattle.model.specs.declared.Refusal.TheVariants.{WrongVersion, BadFlag, BadWordCount, ShortMemory}
 use Rattle.model.specs.declared.Verdict.{Verdict}
 use Rattle.model.specs.Refusals.{demand, ◌then◌}
 use Rattle.image.specs.Bytes.{number_in}
-use Rattle.image.specs.Format.{version_tag, count_tag, version_field, registers_field, flags_field, count_field, flags_formed}
+use Rattle.image.specs.Format.{version_field, registers_field, flags_field, count_field, is_version, flags_formed, count_formed}
 use Rattle.image.specs.Reading.{header_verdict, field_verdict}
 use Rattle.image.proofs.Places.{flags-take}
 use Rattle.image.proofs.Headers.{without_rule}
 use Rattle.image_reader.specs.Passes.{image_version, image_count, head_verdict}
+
+pub version-checked : (bytes : List ℕ) (v : ℕ) (t : Bool) → t ≡ is_version v → v ≡ image_version bytes → demand t WrongVersion ≡ version_field.rule (take 1 (drop 3 bytes))
+version-checked bytes v t p e = ap (λ (x : Bool). demand x WrongVersion) (p ∙ ap is_version e)
 
 -- a flag's byte, by its place in the image and in its field
 pub flag_at : (bytes : List ℕ) (i : ℕ) {x : ℕ} → x ≡ get_or bytes (42 + i) 0 → x ≡ get_or (drop 42 bytes) i 0
@@ -24,23 +28,17 @@ flags-checked bytes t e =
     ap (λ (x : Bool). demand x BadFlag)
     (e ∙ sym (flags-take (drop 42 bytes)) ∙ ap (λ (l : List ℕ). flags_formed (take 4 l)) (sym (drop-drop 3 39 bytes)))
 
--- the four fields of the head
-pub head_of : (known : ℕ → Bool) (fits : ℕ → Verdict) (bytes : List ℕ) {version registers flags count v₂ v₃ v : Verdict}
-    → v ≡ (version then v₂) → v₂ ≡ (registers then v₃) → v₃ ≡ (flags then count)
-    → version ≡ field_verdict (version_field known) bytes → registers ≡ header_verdict 2 32 (drop 4 bytes)
-    → flags ≡ field_verdict flags_field (drop 39 bytes) → count ≡ field_verdict (count_field fits) (drop 46 bytes) → v ≡ head_verdict known fits bytes
-unfolding head_verdict
-head_of known fits bytes e₁ e₂ e₃ p q r s =
-    e₁ ∙ ap₂ (λ (x y : Verdict). x then y) p (e₂ ∙ ap₂ (λ (x y : Verdict). x then y) (q ∙ without_rule registers_field (drop 4 bytes) (λ value. refl)) (e₃ ∙ ap₂ (λ (x y : Verdict). x then y) r s))
+pub count-checked : (bytes : List ℕ) (n room : ℕ) → n ≡ image_count bytes
+    → (demand (count_formed n) BadWordCount then demand (leb n room) ShortMemory) ≡ (count_field room).rule (take 4 (drop 3 (drop 46 bytes)))
+count-checked bytes n room e =
+    ap (λ (x : ℕ). demand (count_formed x) BadWordCount then demand (leb x room) ShortMemory)
+    (e ∙ ap (λ (l : List ℕ). number_in (take 4 l)) (sym (drop-drop 3 46 bytes)))
 
--- the head's verdict asks of the version and of the count what they are in these bytes
-pub head-asks : (known : ℕ → Bool) (fits : ℕ → Verdict) (bytes : List ℕ) {t : Bool} {v : Verdict} → t ≡ known (image_version bytes) → v ≡ fits (image_count bytes)
-    → head_verdict (λ (version : ℕ). t) (λ (words : ℕ). v) bytes ≡ head_verdict known fits bytes
-unfolding head_verdict field_verdict
-head-asks known fits bytes p q =
-    let e : image_count bytes ≡ number_in (take 4 (drop 3 (drop 46 bytes))) = ap (λ (l : List ℕ). number_in (take 4 l)) (sym (drop-drop 3 46 bytes)) in
-    λ i.
-    (header_verdict version_tag 1 bytes then demand (p i) WrongVersion)
-    then field_verdict registers_field (drop 4 bytes)
-    then field_verdict flags_field (drop 39 bytes)
-    then (header_verdict count_tag 4 (drop 46 bytes) then (q ∙ ap fits e) i)
+-- the four fields of the head
+pub head_of : (bytes : List ℕ) (room : ℕ) {version registers flags count v₂ v₃ v : Verdict}
+    → v ≡ (version then v₂) → v₂ ≡ (registers then v₃) → v₃ ≡ (flags then count)
+    → version ≡ field_verdict version_field bytes → registers ≡ header_verdict 2 32 (drop 4 bytes)
+    → flags ≡ field_verdict flags_field (drop 39 bytes) → count ≡ field_verdict (count_field room) (drop 46 bytes) → v ≡ head_verdict bytes room
+unfolding head_verdict
+head_of bytes room e₁ e₂ e₃ p q r s =
+    e₁ ∙ ap₂ (λ (x y : Verdict). x then y) p (e₂ ∙ ap₂ (λ (x y : Verdict). x then y) (q ∙ without_rule registers_field (drop 4 bytes) (λ value. refl)) (e₃ ∙ ap₂ (λ (x y : Verdict). x then y) r s))

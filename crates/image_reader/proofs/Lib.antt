@@ -1,5 +1,4 @@
-pub mod Head
-pub mod Turns
-pub mod Passes
-pub mod Answers
-pub mod WordPlaces
+mod Head
+mod Turns
+mod Passes
+mod Answers

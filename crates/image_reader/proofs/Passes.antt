@@ -1,7 +1,6 @@
 -- The two passes are `read_of`: a verdict on the whole, then what lies at each place.
 use Prim.Native.Nat.{ℕ, zero, suc, ◌+◌, ◌-◌, ◌*◌, ◌≤◌, min}
 use mathlib.Core.Path.{◌≡◌, refl, sym, ap, ap₂, ◌∙◌}
-use mathlib.Core.Bool.{Bool}
 use mathlib.Core.List.{List, [], ◌++◌}
 use native.Mathlib.Omega.{arith}
 use lib.Dec.{eqb}
@@ -12,14 +11,15 @@ use Rattle.model.specs.declared.Refusal.TheVariants.{TrailingBytes}
 use Rattle.model.specs.declared.Verdict.{Verdict}
 use Rattle.model.specs.Refusals.{demand, ◌then◌}
 use Rattle.model.proofs.Verdicts.{then_assoc}
-use Rattle.image.specs.Bytes.{words_in}
-use Rattle.image.specs.Format.{Field, is_version, version_field, registers_field, flags_field, count_field, words_field, end_field, words_per_field, fields_for, span_of}
-use Rattle.image.specs.Reading.{Outcome, loaded, ◌▷◌, field_verdict, read_field, read_memory, read_head, read_end, read_all, count_fits, read_of}
+use Rattle.image.specs.Bytes.{number_in, words_in}
+use Rattle.image.specs.Format.{Field, version_field, registers_field, flags_field, count_field, words_field, end_field, words_per_field, fields_for, span_of}
+use Rattle.image.specs.Reading.{Outcome, loaded, ◌▷◌, field_verdict, read_field, read_memory, read_of, machine_from}
 use Rattle.image.proofs.Bytes.{length-words}
 use Rattle.image.proofs.Places.{words_take, machine-take}
 use Rattle.image.proofs.Outcomes.{verdicts-join}
 use Rattle.image.proofs.Memories.{fields-enough}
-use Rattle.image_reader.specs.Passes.{image_version, image_count, image_machine, image_memory, head_verdict, memory_verdict, end_verdict, tail_verdict, all_verdict, image_verdict}
+use Rattle.image.proofs.Stages.{end_from, memory_from, count_from, flags_from, registers_from, in_stages}
+use Rattle.image_reader.specs.Passes.{image_version, image_count, image_machine, image_memory, head_verdict, memory_verdict, end_verdict, tail_verdict, image_verdict}
 
 -- the words of an image, by place
 abbrev pub image_words : List ℕ → List ℕ
@@ -60,46 +60,53 @@ length-image-memory (suc n) words bytes h =
     ∙ ap₂ (λ (x y : ℕ). x + y) (length-words k (drop 3 bytes)) (length-image-memory n (words - words_per_field) (drop (3 + 4 * k) bytes) (omega arith))
     ∙ omega arith
 
-pub end-passes : (bytes : List ℕ) (o : Outcome) → read_end bytes o ≡ (end_verdict bytes ▷ o)
-unfolding end_verdict read_end read_field
-end-passes bytes o = verdicts-join (field_verdict end_field bytes) (demand (eqb (length (drop 3 bytes)) 0) TrailingBytes) o refl
+end-passes : (room : ℕ) (version registers flags memory bytes : List ℕ)
+    → end_from room version registers flags memory bytes ≡ (end_verdict bytes ▷ loaded (number_in version) (machine_from registers flags) memory)
+unfolding end_verdict read_field
+end-passes room version registers flags memory bytes =
+    verdicts-join (field_verdict end_field bytes) (demand (eqb (length (drop 3 bytes)) 0) TrailingBytes) (loaded (number_in version) (machine_from registers flags) memory) refl
 
--- ---- the head
+-- ---- the whole
 
 regroup : (u v w x y : Verdict) → ((u then v then w then x) then y) ≡ (u then v then w then x then y)
 regroup u v w x y = then_assoc u (v then w then x) y ∙ ap (λ (z : Verdict). u then z) (then_assoc v (w then x) y ∙ ap (λ (z : Verdict). v then z) (then_assoc w x y))
 
-module _ (known : ℕ → Bool) (fits : ℕ → Verdict) (bytes : List ℕ) (next : ℕ → Machine → ℕ → List ℕ → Outcome) (w : Verdict) (o : Outcome) where
-  pub head-passes : next (image_version bytes) (image_machine bytes) (image_count bytes) (drop 53 bytes) ≡ (w ▷ o)
-      → read_head known fits bytes next ≡ ((head_verdict known fits bytes then w) ▷ o)
-  unfolding read_head head_verdict
-  head-passes e =
-      let v₄ : Verdict = field_verdict (count_field fits) (drop 46 bytes) in
+module _ (bytes : List ℕ) (room : ℕ) where
+  abbrev all : Outcome
+  all = loaded (image_version bytes) (image_machine bytes) (image_words bytes)
+
+  abbrev version : List ℕ
+  version = take 1 (drop 3 bytes)
+
+  abbrev registers : List ℕ
+  registers = take 32 (drop 7 bytes)
+
+  abbrev flags : List ℕ
+  flags = take 4 (drop 42 bytes)
+
+  abbrev tail : Verdict
+  tail = tail_verdict (image_count bytes) 53 bytes
+
+  tail-passes : memory_from room version registers flags (take 4 (drop 49 bytes)) (drop 53 bytes) ≡ (tail ▷ all)
+  unfolding tail_verdict
+  tail-passes =
+      let M : ℕ = image_count bytes in
+      let e : Verdict = end_verdict (drop (53 + span_of M) bytes) in
+      memory-passes (fields_for M) M (drop 53 bytes) (end_from room version registers flags) (fields-enough M)
+      ∙ verdicts-join (memory_verdict (fields_for M) M (drop 53 bytes)) e all
+      (end-passes room version registers flags (image_words bytes) (drop (span_of M) (drop 53 bytes))
+      ∙ ap₂ (λ (x : List ℕ) (m : Machine). end_verdict x ▷ loaded (image_version bytes) m (image_words bytes)) (drop-drop (span_of M) 53 bytes) (machine-take (drop 42 bytes) (drop 7 bytes)))
+
+  pub by-passes : read_of bytes room ≡ (image_verdict bytes room ▷ all)
+  unfolding head_verdict
+  by-passes =
+      let v₄ : Verdict = field_verdict (count_field room) (drop 46 bytes) in
       let v₃ : Verdict = field_verdict flags_field (drop 39 bytes) in
       let v₂ : Verdict = field_verdict registers_field (drop 4 bytes) in
-      let v₁ : Verdict = field_verdict (version_field known) bytes in
-      read_at (version_field known) 0 bytes _ (v₂ then v₃ then v₄ then w) o
-      (read_at registers_field 4 bytes _ (v₃ then v₄ then w) o
-      (read_at flags_field 39 bytes _ (v₄ then w) o
-      (read_at (count_field fits) 46 bytes _ w o
-      (ap (λ (m : Machine). next (image_version bytes) m (image_count bytes) (drop 53 bytes)) (machine-take (drop 42 bytes) (drop 7 bytes)) ∙ e))))
-      ∙ ap (λ (v : Verdict). v ▷ o) (sym (regroup v₁ v₂ v₃ v₄ w))
-
--- ---- the whole
-
-abbrev pub image_all : List ℕ → Outcome
-image_all bytes = loaded (image_version bytes) (image_machine bytes) (image_words bytes)
-
-pub all-by-passes : (known : ℕ → Bool) (fits : ℕ → Verdict) (bytes : List ℕ) → read_all known fits bytes ≡ (all_verdict known fits bytes ▷ image_all bytes)
-unfolding read_all tail_verdict
-all-by-passes known fits bytes =
-    let M : ℕ = image_count bytes in
-    let e : Verdict = end_verdict (drop (53 + span_of M) bytes) in
-    head-passes known fits bytes _ (tail_verdict M 53 bytes) (image_all bytes)
-    (memory-passes (fields_for M) M (drop 53 bytes) _ (fields-enough M)
-    ∙ verdicts-join (memory_verdict (fields_for M) M (drop 53 bytes)) e (image_all bytes)
-    (end-passes (drop (span_of M) (drop 53 bytes)) (image_all bytes) ∙ ap (λ (x : List ℕ). end_verdict x ▷ image_all bytes) (drop-drop (span_of M) 53 bytes)))
-
-pub by-passes : (bytes : List ℕ) (room : ℕ) → read_of bytes room ≡ (image_verdict bytes room ▷ image_all bytes)
-unfolding read_of
-by-passes bytes room = all-by-passes is_version (count_fits room) bytes
+      let v₁ : Verdict = field_verdict version_field bytes in
+      in_stages room bytes
+      ∙ read_at version_field 0 bytes (registers_from room) (v₂ then v₃ then v₄ then tail) all
+      (read_at registers_field 4 bytes (flags_from room version) (v₃ then v₄ then tail) all
+      (read_at flags_field 39 bytes (count_from room version registers) (v₄ then tail) all
+      (read_at (count_field room) 46 bytes (memory_from room version registers flags) tail all tail-passes)))
+      ∙ ap (λ (v : Verdict). v ▷ all) (sym (regroup v₁ v₂ v₃ v₄ tail))

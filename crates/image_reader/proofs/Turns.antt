@@ -15,7 +15,7 @@ use Rattle.model.specs.declared.Verdict.TheVariants.{Accepted, Refused}
 use Rattle.model.specs.Refusals.{demand, ◌then◌}
 use Rattle.model.proofs.Verdicts.{then_assoc}
 use Rattle.image.specs.Bytes.{words_in}
-use Rattle.image.specs.Format.{end_tag, words_field, end_field, words_per_field, fields_for, span_of}
+use Rattle.image.specs.Format.{words_field, end_field, words_per_field, fields_for, span_of}
 use Rattle.image.specs.Reading.{header_verdict, field_verdict}
 use Rattle.image.proofs.Headers.{without_rule, nothing-follows}
 use Rattle.image.proofs.Memories.{one-field-less, span_step}
@@ -62,16 +62,13 @@ module _ (left at count : ℕ) (bytes : List ℕ) (h : 0 < left) (e : count ≡ 
       ap (λ (n : ℕ). image_memory n left (drop at bytes)) fields
       ∙ (λ i. words_in (sym e i) (drop-drop 3 at bytes i) ++ image_memory (fields_for (left - count)) (fewer i) (rest i))
 
--- the end by what the code tests
-pub end-tested : (at : ℕ) (bytes : List ℕ) {header last both : Verdict} → both ≡ (header then last) → header ≡ header_verdict end_tag 0 (drop at bytes)
-    → last ≡ demand (leb (length bytes - at) 3) TrailingBytes → both ≡ end_verdict (drop at bytes)
-unfolding end_verdict
-end-tested at bytes b h l =
+-- no words are left: what the code tests of the end
+pub tail_end : (left at : ℕ) (bytes : List ℕ) {header last both whole : Verdict} → left ≡ 0 → both ≡ (header then last) → header ≡ header_verdict 0xFF 0 (drop at bytes)
+    → last ≡ demand (leb (length bytes) (at + 3)) TrailingBytes → tail_verdict left at bytes ≡ whole → both ≡ whole
+unfolding tail_verdict memory_verdict fields_for end_verdict
+tail_end left at bytes z b h l e =
     b
-    ∙ ap₂ (λ (x y : Verdict). x then y) (h ∙ without_rule end_field (drop at bytes) (λ value. refl))
-    (l ∙ ap (λ (t : Bool). demand t TrailingBytes) (nothing-follows bytes at))
-
--- no words are left
-pub tail_end : (left at : ℕ) (bytes : List ℕ) {v whole : Verdict} → left ≡ 0 → v ≡ end_verdict (drop at bytes) → tail_verdict left at bytes ≡ whole → v ≡ whole
-unfolding tail_verdict memory_verdict fields_for
-tail_end left at bytes z b e = b ∙ ap (λ (n : ℕ). end_verdict (drop n bytes)) (sym (add-zero at)) ∙ ap (λ (n : ℕ). tail_verdict n at bytes) (sym z) ∙ e
+    ∙ ap₂ (λ (x y : Verdict). x then y) (h ∙ without_rule end_field (drop at bytes) (λ value. refl)) (l ∙ ap (λ (t : Bool). demand t TrailingBytes) (nothing-follows bytes at))
+    ∙ ap (λ (n : ℕ). end_verdict (drop n bytes)) (sym (add-zero at))
+    ∙ ap (λ (n : ℕ). tail_verdict n at bytes) (sym z)
+    ∙ e

@@ -1,15 +1,14 @@
 -- Where things lie in an image, as the reader's two passes work it out; `proofs/Passes` shows that this is `read_of`. Document 01,
 -- "Image".
-use Rattle.std.specs.Prelude.{ℕ, zero, suc, ◌+◌, ◌-◌, ◌*◌, ◌<◌, min, ◌≡◌, Bool, cond, List, [], ◌++◌, eqb, leb, length, get_or, take, drop}
+use Rattle.std.specs.Prelude.{ℕ, zero, suc, ◌+◌, ◌-◌, ◌*◌, ◌<◌, min, ◌≡◌, List, [], ◌++◌, eqb, length, get_or, take, drop}
 use Rattle.model.specs.declared.Machine.{Machine}
 use Rattle.model.specs.declared.Refusal.TheVariants.{TrailingBytes}
 use Rattle.model.specs.declared.Verdict.{Verdict}
 use Rattle.model.specs.declared.Verdict.TheVariants.{Accepted}
 use Rattle.model.specs.Refusals.{demand, ◌then◌}
 use Rattle.image.specs.Bytes.{number_in, words_in}
-use Rattle.image.specs.Format.{is_version, version_field, registers_field, flags_field, count_field, words_field, end_field, words_per_field, fields_for, span_of}
-use Rattle.image.specs.Calls.{cleared_machine}
-use Rattle.image.specs.Reading.{field_verdict, machine_from, count_fits}
+use Rattle.image.specs.Format.{version_field, registers_field, flags_field, count_field, words_field, end_field, words_per_field, fields_for, span_of}
+use Rattle.image.specs.Reading.{field_verdict, machine_from}
 
 -- a byte of a slice, 0 past its end
 pub record ByteAt (bytes : List ℕ) (at r : ℕ) : Type 0 where
@@ -20,10 +19,6 @@ pub record ByteAt (bytes : List ℕ) (at r : ℕ) : Type 0 where
 pub record PairAt (bytes : List ℕ) (at r : ℕ) : Type 0 where
   pub is : r ≡ number_in (take 2 (drop at bytes))
   pub small : r < 65_536
-
--- the word from a place on, 0 where it is cut
-unfoldable pub word_there : (bytes : List ℕ) → (at : ℕ) → ℕ
-word_there bytes at = cond (leb 4 (length bytes - at)) (number_in (take 4 (drop at bytes))) 0
 
 -- ---- what is there
 
@@ -40,10 +35,6 @@ image_version bytes = number_in (take 1 (drop 3 bytes))
 abbrev pub image_machine : List ℕ → Machine
 image_machine bytes = machine_from (drop 7 bytes) (drop 42 bytes)
 
--- cleared where the registers are cut
-unfoldable pub machine_there : List ℕ → Machine
-machine_there bytes = cond (leb 39 (length bytes)) (image_machine bytes) cleared_machine
-
 -- M
 abbrev pub image_count : List ℕ → ℕ
 image_count bytes = number_in (take 4 (drop 49 bytes))
@@ -55,12 +46,12 @@ image_memory (suc n) words bytes =
 
 -- ---- whether it is in order
 
-unfoldable pub head_verdict : (known : ℕ → Bool) → (fits : ℕ → Verdict) → List ℕ → Verdict
-head_verdict known fits bytes =
-    field_verdict (version_field known) bytes
+unfoldable pub head_verdict : List ℕ → (room : ℕ) → Verdict
+head_verdict bytes room =
+    field_verdict version_field bytes
     then field_verdict registers_field (drop 4 bytes)
     then field_verdict flags_field (drop 39 bytes)
-    then field_verdict (count_field fits) (drop 46 bytes)
+    then field_verdict (count_field room) (drop 46 bytes)
 
 unfoldable pub memory_verdict : (fields words : ℕ) → List ℕ → Verdict
 memory_verdict zero words bytes = Accepted
@@ -75,8 +66,5 @@ end_verdict bytes = field_verdict end_field bytes then demand (eqb (length (drop
 unfoldable pub tail_verdict : (words at : ℕ) → List ℕ → Verdict
 tail_verdict words at bytes = memory_verdict (fields_for words) words (drop at bytes) then end_verdict (drop (at + span_of words) bytes)
 
-abbrev pub all_verdict : (known : ℕ → Bool) → (fits : ℕ → Verdict) → List ℕ → Verdict
-all_verdict known fits bytes = head_verdict known fits bytes then tail_verdict (image_count bytes) 53 bytes
-
 abbrev pub image_verdict : List ℕ → (room : ℕ) → Verdict
-image_verdict bytes room = all_verdict is_version (count_fits room) bytes
+image_verdict bytes room = head_verdict bytes room then tail_verdict (image_count bytes) 53 bytes

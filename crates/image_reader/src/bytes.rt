@@ -1,8 +1,8 @@
 // Bytes of a slice as numbers and words, lowest byte first.
-ghost use Rattle.std.specs.Prelude.{◌≡◌, ◌+◌, ◌-◌, ◌*◌, ◌≤◌, ◌<◌, length, take, drop};
+ghost use Rattle.std.specs.Prelude.{◌≡◌, ◌+◌, ◌*◌, ◌^◌, ◌≤◌, ◌<◌, length, take, drop};
 ghost use Rattle.std.proofs.lemmas.List.Edits.{sets};
 ghost use Rattle.image.specs.Bytes.{number_in, words_in};
-ghost use Rattle.image_reader.specs.Passes.{ByteAt, PairAt, word_there};
+ghost use Rattle.image_reader.specs.Passes.{ByteAt, PairAt};
 
 fn byte_in(bytes: &[u8], at: usize) -> u32
     requires { at < length bytes.now }
@@ -22,15 +22,12 @@ pub fn byte_at(bytes: &[u8], at: usize) -> u32
     }
 }
 
-// The two bytes from a place on, 0 past the end.
+// The two bytes from a place on.
 pub fn pair_at(bytes: &[u8], at: usize) -> u32
+    requires { at + 1 < 2 ^ 64 }
     ensures { PairAt bytes.now at result }
 {
-    if at < bytes.len() {
-        byte_at(bytes, at) + 256 * byte_at(bytes, at + 1)
-    } else {
-        0
-    }
+    byte_at(bytes, at) + 256 * byte_at(bytes, at + 1)
 }
 
 // The word from a place on: the compiler joins the four loads into one.
@@ -43,28 +40,6 @@ fn word_in(bytes: &[u8], at: usize) -> u32
     let c = byte_in(bytes, at + 2);
     let d = byte_in(bytes, at + 3);
     a + 256 * b + 65_536 * c + 16_777_216 * d
-}
-
-// The word from a place on, 0 where it is cut.
-pub fn word_at(bytes: &[u8], at: usize) -> u32
-    ensures { result ≡ word_there bytes.now at }
-{
-    if 4 <= bytes_from(bytes, at) {
-        word_in(bytes, at)
-    } else {
-        0
-    }
-}
-
-// How many bytes there are from a place on.
-pub fn bytes_from(bytes: &[u8], at: usize) -> usize
-    ensures { result ≡ length bytes.now - at }
-{
-    if at < bytes.len() {
-        bytes.len() - at
-    } else {
-        0
-    }
 }
 
 // `count` words, stored from `from` on.

@@ -1,22 +1,22 @@
 // The first pass: whether the bytes are an image that the memory can hold.
-ghost use Rattle.std.specs.Prelude.{◌≡◌, drop};
-ghost use Rattle.model.specs.declared.Refusal.TheVariants.{BadWordCount};
-ghost use Rattle.model.specs.Refusals.{demand};
-ghost use Rattle.image.specs.Format.{version_field, flags_field, count_field, count_formed};
-ghost use Rattle.image.specs.Reading.{header_verdict, field_verdict, count_fits};
-ghost use Rattle.image_reader.specs.Passes.{image_version, image_count, head_verdict, end_verdict, tail_verdict, all_verdict, image_verdict};
+ghost use Rattle.std.specs.Prelude.{◌≡◌, ◌+◌, ◌^◌, ◌≤◌, ◌<◌, drop};
+ghost use Rattle.model.specs.Refusals.{most_words};
+ghost use Rattle.image.specs.Format.{version_field, flags_field, count_field};
+ghost use Rattle.image.specs.Reading.{header_verdict, field_verdict};
+ghost use Rattle.image_reader.specs.Passes.{image_version, image_count, head_verdict, tail_verdict, image_verdict};
 
-use super::bytes::{byte_at, bytes_from, pair_at};
+use super::bytes::{byte_at, pair_at};
 use image::{is_version, words_in_field};
 use model::{Refusal, Verdict};
 use refusals::{MOST_WORDS, demand, then};
 
 // A field from a place on, but for its value: header cut, tag, length, value cut.
-pub fn header_verdict(bytes: &[u8], at: usize, tag: u32, due: u32) -> Verdict
+fn header_verdict(bytes: &[u8], at: usize, tag: u32, due: u32) -> Verdict
+    requires { at + 3 + due < 2 ^ 64 }
     ensures { result ≡ header_verdict tag due (drop at bytes.now) }
 {
-    let left = bytes_from(bytes, at);
-    if left < 3 {
+    let value = at + 3;
+    if bytes.len() < value {
         return Verdict::Refused(Refusal::CutImage);
     }
     if byte_at(bytes, at) != tag {
@@ -25,7 +25,7 @@ pub fn header_verdict(bytes: &[u8], at: usize, tag: u32, due: u32) -> Verdict
     if pair_at(bytes, at + 1) != due {
         return Verdict::Refused(Refusal::WrongLength);
     }
-    if left - 3 < due as usize {
+    if bytes.len() < value + due as usize {
         return Verdict::Refused(Refusal::CutImage);
     }
     Verdict::Accepted
@@ -37,10 +37,11 @@ pub fn image_version(bytes: &[u8]) -> u32
     byte_at(bytes, 3)
 }
 
-fn version_verdict(bytes: &[u8], known: bool) -> Verdict
-    ensures { result ≡ field_verdict (version_field (λ version. known)) bytes.now }
+fn version_verdict(bytes: &[u8]) -> Verdict
+    ensures { result ≡ field_verdict version_field bytes.now }
 {
     let header = header_verdict(bytes, 0, 1, 1);
+    let known = is_version(image_version(bytes));
     then(header, demand(known, Refusal::WrongVersion))
 }
 
@@ -62,42 +63,34 @@ pub fn word_count(bytes: &[u8]) -> u32
     pair_at(bytes, 49) + 65_536 * pair_at(bytes, 51)
 }
 
-// Reason 13.
-pub fn count_formed(words: u32) -> Verdict
-    ensures { result ≡ demand (count_formed words) BadWordCount }
-{
-    let count = words as usize;
-    demand((1 <= count) & (count <= MOST_WORDS), Refusal::BadWordCount)
-}
-
-// Reasons 13 and 14, of a lent memory of so many words.
-fn count_fits(room: usize, words: u32) -> Verdict
-    ensures { result ≡ count_fits room words }
-{
-    let held = words as usize <= room;
-    then(count_formed(words), demand(held, Refusal::ShortMemory))
-}
-
-fn count_verdict(bytes: &[u8], fits: Verdict) -> Verdict
-    ensures { result ≡ field_verdict (count_field (λ words. fits)) (drop 46 bytes.now) }
+fn count_verdict(bytes: &[u8], room: usize) -> Verdict
+    ensures { result ≡ field_verdict (count_field room) (drop 46 bytes.now) }
 {
     let header = header_verdict(bytes, 46, 4, 4);
-    then(header, fits)
+    let words = word_count(bytes) as usize;
+    let possible = (1 <= words) & (words <= MOST_WORDS);
+    let held = words <= room;
+    let value = then(
+        demand(possible, Refusal::BadWordCount),
+        demand(held, Refusal::ShortMemory),
+    );
+    then(header, value)
 }
 
-// The version, the registers, the flags and the word count, with whether the version is known and whether the count fits.
-pub fn head_verdict(bytes: &[u8], known: bool, fits: Verdict) -> Verdict
-    ensures { result ≡ head_verdict (λ version. known) (λ words. fits) bytes.now }
+// The version, the registers, the flags and the word count.
+fn head_verdict(bytes: &[u8], room: usize) -> Verdict
+    ensures { result ≡ head_verdict bytes.now room }
 {
-    let version = version_verdict(bytes, known);
+    let version = version_verdict(bytes);
     let registers = header_verdict(bytes, 4, 2, 32);
     let flags = flags_verdict(bytes);
-    let count = count_verdict(bytes, fits);
+    let count = count_verdict(bytes, room);
     then(version, then(registers, then(flags, count)))
 }
 
 // The fields of words, from byte 53 on, and the end field, with nothing after it.
 fn tail_verdict(bytes: &[u8], words: usize) -> Verdict
+    requires { words ≤ most_words }
     ensures { result ≡ tail_verdict words 53 bytes.now }
 {
     let mut at = 53;
@@ -113,31 +106,15 @@ fn tail_verdict(bytes: &[u8], words: usize) -> Verdict
             }
         }
     }
-    end_verdict(bytes, at)
-}
-
-// The end field from a place on, with nothing after it.
-pub fn end_verdict(bytes: &[u8], at: usize) -> Verdict
-    ensures { result ≡ end_verdict (drop at bytes.now) }
-{
     let end = header_verdict(bytes, at, 255, 0);
-    let last = bytes_from(bytes, at) <= 3;
+    let last = bytes.len() <= at + 3;
     then(end, demand(last, Refusal::TrailingBytes))
 }
 
 pub fn image_verdict(bytes: &[u8], room: usize) -> Verdict
     ensures { result ≡ image_verdict bytes.now room }
 {
-    let known = is_version(image_version(bytes));
-    let fits = count_fits(room, word_count(bytes));
-    all_verdict(bytes, known, fits)
-}
-
-// Whether the bytes are an image of all words, with whether the version is known and whether the count fits.
-pub fn all_verdict(bytes: &[u8], known: bool, fits: Verdict) -> Verdict
-    ensures { result ≡ all_verdict (λ version. known) (λ words. fits) bytes.now }
-{
-    let head = head_verdict(bytes, known, fits);
+    let head = head_verdict(bytes, room);
     match head {
         Verdict::Refused(why) => Verdict::Refused(why),
         Verdict::Accepted => tail_verdict(bytes, word_count(bytes) as usize),

@@ -5,14 +5,9 @@ mod loads;
 
 ghost use Rattle.image.specs.Calls.{Reads};
 
-pub use bytes::{byte_at, pair_at, word_at};
-use checks::image_verdict;
-pub use checks::{
-    all_verdict, count_formed, end_verdict, head_verdict, header_verdict, image_version, word_count,
-};
+use checks::{image_verdict, image_version, word_count};
 use image::{ReadAnswer, ReadResult};
-pub use loads::{cleared_machine, machine_at};
-use loads::{load_memory, machine_in};
+use loads::{cleared_machine, load_memory, machine_at};
 use model::Verdict;
 
 // Reads an image: its words to the front of `memory`, its machine and version in the result. Everything is checked before a word is stored.
@@ -30,7 +25,7 @@ pub fn read(bytes: &[u8], memory: &mut [u32]) -> ReadResult
             load_memory(bytes, memory, words as usize);
             ReadResult {
                 answer: ReadAnswer::Loaded(words, version),
-                machine: machine_in(bytes),
+                machine: machine_at(bytes),
             }
         }
     }

@@ -3,7 +3,7 @@ ghost use Rattle.std.specs.Prelude.{◌≡◌, ◌+◌, ◌≤◌, length, drop}
 ghost use Rattle.std.proofs.lemmas.List.Edits.{sets};
 ghost use Rattle.image.specs.Format.{fields_for, span_of};
 ghost use Rattle.image.specs.Calls.{cleared_machine};
-ghost use Rattle.image_reader.specs.Passes.{image_machine, machine_there, image_memory};
+ghost use Rattle.image_reader.specs.Passes.{image_machine, image_memory};
 
 use super::bytes::{byte_at, get_words};
 use image::words_in_field;
@@ -24,18 +24,7 @@ pub fn cleared_machine() -> Machine
     }
 }
 
-// The machine of an image whose registers are there; cleared where they are cut.
 pub fn machine_at(bytes: &[u8]) -> Machine
-    ensures { result ≡ machine_there bytes.now }
-{
-    if 39 <= bytes.len() {
-        machine_in(bytes)
-    } else {
-        cleared_machine()
-    }
-}
-
-pub fn machine_in(bytes: &[u8]) -> Machine
     requires { 39 ≤ length bytes.now }
     ensures { result ≡ image_machine bytes.now }
 {

@@ -12,16 +12,35 @@ use Rattle.model.specs.declared.Refusal.{Refusal}
 use Rattle.model.specs.declared.Refusal.TheVariants.{ShortOutput, WrongVersion}
 use Rattle.model.specs.declared.Verdict.{Verdict}
 use Rattle.model.specs.declared.Verdict.TheVariants.{Accepted, Refused}
-use Rattle.model.specs.Refusals.{demand, ◌then◌, memory_fits}
+use Rattle.model.specs.Words.{overlay}
+use Rattle.model.specs.Refusals.{verdict_number, left_by, demand, ◌then◌, memory_fits}
 use Rattle.model.proofs.Stores.{overlaid}
 use Rattle.image.specs.declared.WriteAnswer.{WriteAnswer}
 use Rattle.image.specs.Format.{is_version, image_of}
-use Rattle.image.specs.Calls.{write_verdict, Writes}
-use Rattle.image.proofs.Leaves.{leaves-bytes}
+use Rattle.image.specs.Calls.{write_verdict, write_result, write_number, verdict_size, write_size, write_returned, write_bytes, Writes}
 
 module _ (memory : List ℕ) (machine : Machine) (version : ℕ) (out : List ℕ) where
   abbrev image : List ℕ
   image = image_of version machine memory
+
+  numbered : (v : Verdict) → write_number (write_result v image) ≡ verdict_number v
+  numbered Accepted = refl
+  numbered (Refused why) = refl
+
+  sized : (v : Verdict) → write_size (write_result v image) ≡ verdict_size v image
+  sized Accepted = refl
+  sized (Refused why) = refl
+
+  -- the contract, from the verdict and what it asks of the output
+  judged : (v : Verdict) (out' : List ℕ) → v ≡ write_verdict memory version image out → out' ≡ left_by v (overlay image out) out → Writes memory machine version out out' (write_result v image)
+  unfolding write_returned write_bytes
+  judged v out' e o =
+      record {
+        result = ap (λ (x : Verdict). write_result x image) e;
+        bytes = o ∙ ap (λ (x : Verdict). left_by x (overlay image out) out) e;
+        number = numbered v ∙ ap verdict_number e;
+        size = sized v ∙ ap (λ (x : Verdict). verdict_size x image) e;
+      }
 
   -- the verdict with the three tests as they come out
   tests : (v : Verdict) (t k : Bool) → v ≡ memory_fits memory → leb (length image) (length out) ≡ t → is_version version ≡ k
@@ -30,15 +49,16 @@ module _ (memory : List ℕ) (machine : Machine) (version : ℕ) (out : List ℕ
   tests v t k p q s = λ i. p i then demand (sym q i) ShortOutput then demand (sym s i) WrongVersion
 
   pub write_refused : {why : Refusal} → Refused why ≡ memory_fits memory → Writes memory machine version out out (WriteAnswer.Refused why)
-  write_refused {why} e = leaves-bytes (Refused why) _ image out out _ (tests (Refused why) _ _ e refl refl) refl refl
+  write_refused {why} e = judged (Refused why) out (tests (Refused why) _ _ e refl refl) refl
 
   module _ (fits : Accepted ≡ memory_fits memory) where
     pub write_no_room : length out < length image → Writes memory machine version out out (WriteAnswer.Refused ShortOutput)
-    write_no_room s = leaves-bytes (Refused ShortOutput) _ image out out _ (tests Accepted false _ fits (lt-leb _ _ s) refl) refl refl
+    write_no_room s = judged (Refused ShortOutput) out (tests Accepted false _ fits (lt-leb _ _ s) refl) refl
 
     pub write_no_version : length image ≤ length out → is_version version ≡ false → Writes memory machine version out out (WriteAnswer.Refused WrongVersion)
-    write_no_version s k = leaves-bytes (Refused WrongVersion) _ image out out _ (tests Accepted true false fits (le-leb _ _ s) k) refl refl
+    write_no_version s k = judged (Refused WrongVersion) out (tests Accepted true false fits (le-leb _ _ s) k) refl
 
     pub write_carried : (out' : List ℕ) (n : ℕ) → length image ≤ length out → is_version version ≡ true → out' ≡ sets out 0 image → n ≡ length image → Writes memory machine version out out' (WriteAnswer.Written n)
     write_carried out' n s k p e =
-        leaves-bytes Accepted _ image out out' _ (tests Accepted true true fits (le-leb _ _ s) k) (ap WriteAnswer.Written e) (p ∙ overlaid out image s)
+        let r = judged Accepted out' (tests Accepted true true fits (le-leb _ _ s) k) (p ∙ overlaid out image s) in
+        record { result = ap WriteAnswer.Written e ∙ r.result; bytes = r.bytes; number = r.number; size = e ∙ r.size }

@@ -1,2 +1,2 @@
-pub mod Puts
+mod Puts
 mod Answers

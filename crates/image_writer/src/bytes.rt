@@ -1,8 +1,7 @@
 // Numbers and words as bytes, lowest byte first, stored from a place on.
-ghost use Rattle.std.specs.Prelude.{◌≡◌, [], ◌∷◌, ◌+◌, ◌-◌, ◌*◌, ◌≤◌, length, take, drop};
+ghost use Rattle.std.specs.Prelude.{◌≡◌, [], ◌∷◌, ◌+◌, ◌*◌, ◌≤◌, length, take, drop};
 ghost use Rattle.std.proofs.lemmas.List.Edits.{sets};
 ghost use Rattle.image.specs.Bytes.{bytes_of, word_bytes};
-ghost use Rattle.image_writer.specs.Placed.{placed};
 
 // The compiler joins the four stores into one.
 pub fn put_four(out: &mut [u8], at: usize, a: u8, b: u8, c: u8, d: u8)
@@ -40,31 +39,6 @@ pub fn put_header(out: &mut [u8], at: usize, tag: u8, size: u32)
     out[at] = tag;
     out[at + 1] = (size % 256) as u8;
     out[at + 2] = (size / 256 % 256) as u8;
-}
-
-// How many of so many bytes are from a place on.
-fn room_from(bytes: usize, at: usize) -> usize
-    ensures { result ≡ bytes - at }
-{
-    if at < bytes { bytes - at } else { 0 }
-}
-
-// A word, where all of it fits.
-pub fn place_word(out: &mut [u8], at: usize, word: u32)
-    ensures { out.new ≡ placed out.old at (bytes_of 4 word) }
-{
-    if 4 <= room_from(out.len(), at) {
-        put_word(out, at, word);
-    }
-}
-
-// A field's tag and length, where all of it fits.
-pub fn place_header(out: &mut [u8], at: usize, tag: u8, size: u32)
-    ensures { out.new ≡ placed out.old at (tag ∷ bytes_of 2 size) }
-{
-    if 3 <= room_from(out.len(), at) {
-        put_header(out, at, tag, size);
-    }
 }
 
 // `count` words, those from `from` on.

@@ -1,27 +1,25 @@
 // The fields of an image, each stored from a place on.
-ghost use Rattle.std.specs.Prelude.{◌≡◌, [], ◌+◌, ◌*◌, ◌≤◌, length, take, drop};
+ghost use Rattle.std.specs.Prelude.{◌≡◌, ◌+◌, ◌*◌, ◌≤◌, length, take, drop};
 ghost use Rattle.std.proofs.lemmas.List.Edits.{sets};
 ghost use Rattle.model.specs.Packed.{flag_numbers};
 ghost use Rattle.model.specs.Refusals.{most_words};
 ghost use Rattle.image.specs.Bytes.{bytes_of, word_bytes};
-ghost use Rattle.image.specs.Format.{field_bytes, registers_tag, flags_tag, count_tag, words_tag, words_per_field, fields_for, span_of, word_fields, with_head, image_of};
-ghost use Rattle.image_writer.specs.Placed.{placed};
+ghost use Rattle.image.specs.Format.{field_bytes, registers_field, flags_field, count_field, words_field, words_per_field, fields_for, span_of, memory_fields, image_of};
 
 use super::bytes::{put_four, put_header, put_word, put_words};
 use image::{WORDS_PER_FIELD, words_in_field};
 use model::{Flags, Machine};
 
-// How long an image is with so many words in its fields.
-pub fn image_size(words: u32) -> usize
+pub fn image_size(words: usize) -> usize
+    requires { words ≤ most_words }
     ensures { result ≡ 56 + span_of words }
 {
-    let count = words as usize;
-    56 + 4 * count + 3 * ((count + (WORDS_PER_FIELD - 1)) / WORDS_PER_FIELD)
+    56 + 4 * words + 3 * ((words + (WORDS_PER_FIELD - 1)) / WORDS_PER_FIELD)
 }
 
 fn put_registers(out: &mut [u8], at: usize, regs: [u32; 8])
     requires { at + 35 ≤ length out.old }
-    ensures { out.new ≡ sets out.old at (field_bytes registers_tag (word_bytes regs)) }
+    ensures { out.new ≡ sets out.old at (field_bytes registers_field (word_bytes regs)) }
 {
     put_header(out, at, 2, 32);
     put_words(out, at + 3, &regs, 0, 8);
@@ -29,7 +27,7 @@ fn put_registers(out: &mut [u8], at: usize, regs: [u32; 8])
 
 fn put_flags(out: &mut [u8], at: usize, flags: Flags)
     requires { at + 7 ≤ length out.old }
-    ensures { out.new ≡ sets out.old at (field_bytes flags_tag (flag_numbers flags)) }
+    ensures { out.new ≡ sets out.old at (field_bytes flags_field (flag_numbers flags)) }
 {
     put_header(out, at, 3, 4);
     put_four(
@@ -44,7 +42,7 @@ fn put_flags(out: &mut [u8], at: usize, flags: Flags)
 
 fn put_count(out: &mut [u8], at: usize, words: u32)
     requires { at + 7 ≤ length out.old }
-    ensures { out.new ≡ sets out.old at (field_bytes count_tag (bytes_of 4 words)) }
+    ensures { out.new ≡ sets out.old at (field_bytes (count_field words) (bytes_of 4 words)) }
 {
     put_header(out, at, 4, 4);
     put_word(out, at + 3, words);
@@ -53,7 +51,7 @@ fn put_count(out: &mut [u8], at: usize, words: u32)
 // One tag-05 field.
 fn put_word_field(out: &mut [u8], at: usize, memory: &[u32], from: usize, count: usize)
     requires { (at + 3 + 4 * count ≤ length out.old) × (from + count ≤ length memory.now) × (count ≤ words_per_field) }
-    ensures { out.new ≡ sets out.old at (field_bytes words_tag (word_bytes (take count (drop from memory.now)))) }
+    ensures { out.new ≡ sets out.old at (field_bytes (words_field count) (word_bytes (take count (drop from memory.now)))) }
 {
     put_header(out, at, 5, (4 * count) as u32);
     put_words(out, at + 3, memory, from, count);
@@ -62,7 +60,7 @@ fn put_word_field(out: &mut [u8], at: usize, memory: &[u32], from: usize, count:
 // All tag-05 fields.
 fn put_memory(out: &mut [u8], start: usize, memory: &[u32])
     requires { start + span_of (length memory.now) ≤ length out.old }
-    ensures { out.new ≡ sets out.old start (word_fields words_tag (fields_for (length memory.now)) memory.now) }
+    ensures { out.new ≡ sets out.old start (memory_fields (fields_for (length memory.now)) memory.now) }
 {
     let mut at = start;
     let mut from = 0;
@@ -74,35 +72,18 @@ fn put_memory(out: &mut [u8], start: usize, memory: &[u32])
     }
 }
 
-// The fields before the words.
-fn put_head(out: &mut [u8], machine: Machine, version: u8, words: u32)
-    requires { 53 ≤ length out.old }
-    ensures { out.new ≡ sets out.old 0 (with_head version machine words []) }
+pub fn put_image(memory: &[u32], machine: Machine, version: u8, out: &mut [u8])
+    requires { (length memory.now ≤ most_words) × (56 + span_of (length memory.now) ≤ length out.old) }
+    ensures { out.new ≡ sets out.old 0 (image_of version machine memory.now) }
 {
+    let words = memory.len();
+    let end = image_size(words) - 3;
     let regs = machine.regs;
     let flags = machine.flags;
     put_four(out, 0, 1, 1, 0, version); // tag 1, length 1
     put_registers(out, 4, regs);
     put_flags(out, 39, flags);
-    put_count(out, 46, words);
-}
-
-// The same, where all of them fit.
-pub fn place_head(out: &mut [u8], machine: Machine, version: u8, words: u32)
-    ensures { out.new ≡ placed out.old 0 (with_head version machine words []) }
-{
-    if 53 <= out.len() {
-        put_head(out, machine, version, words);
-    }
-}
-
-pub fn put_image(memory: &[u32], machine: Machine, version: u8, out: &mut [u8])
-    requires { (length memory.now ≤ most_words) × (56 + span_of (length memory.now) ≤ length out.old) }
-    ensures { out.new ≡ sets out.old 0 (image_of version machine memory.now) }
-{
-    let words = memory.len() as u32;
-    let end = image_size(words) - 3;
-    put_head(out, machine, version, words);
+    put_count(out, 46, words as u32);
     put_memory(out, 53, memory);
     put_header(out, end, 255, 0);
 }

@@ -4,9 +4,7 @@ mod fields;
 
 ghost use Rattle.image.specs.Calls.{Writes};
 
-pub use bytes::{place_header, place_word};
-use fields::put_image;
-pub use fields::{image_size, place_head};
+use fields::{image_size, put_image};
 use image::{WriteAnswer, is_version};
 use model::{Machine, Refusal, Verdict};
 use refusals::memory_fits;
@@ -18,7 +16,7 @@ pub fn write(memory: &[u32], machine: Machine, version: u32, out: &mut [u8]) -> 
     match memory_fits(memory) {
         Verdict::Refused(why) => WriteAnswer::Refused(why),
         Verdict::Accepted => {
-            let size = image_size(memory.len() as u32);
+            let size = image_size(memory.len());
             if out.len() < size {
                 return WriteAnswer::Refused(Refusal::ShortOutput);
             }

@@ -15,7 +15,7 @@ use Rattle.model.proofs.Stores.{overlaid}
 use Rattle.image.specs.declared.ReadAnswer.{ReadAnswer}
 use Rattle.image.specs.declared.ReadResult.{ReadResult}
 use Rattle.image.specs.Reading.{Outcome, loaded, refused, read_of}
-use Rattle.image.specs.Calls.{read_result, outcome_words, Reads}
+use Rattle.image.specs.Calls.{read_result, outcome_words, read_returned, read_words, Reads}
 use Rattle.image.proofs.Loaded.{loaded-fits, Loads, loads, first-words}
 use Rattle.ledger_lines.specs.Lines.{refused_text, longest_text, ledger}
 use Rattle.ledger_lines.proofs.Lengths.{ledger-length}
@@ -44,9 +44,10 @@ module _ {bytes memory out : List ℕ} where
         words = rw (e, is) words;
       }
 
-module _ (bytes : List ℕ) {memory memory₁ : List ℕ} {r : ReadResult} (h : Reads bytes memory memory₁ r) where
+module _ {bytes memory memory₁ : List ℕ} {r : ReadResult} (h : Reads bytes memory memory₁ r) where
   is-refused : {why : Refusal} → r.answer ≡ ReadAnswer.Refused why → (o : Outcome) → read_of bytes (length memory) ≡ o
       → (o ≡ refused why) × (memory₁ ≡ memory)
+  unfolding read_returned read_words
   is-refused e (loaded version machine words) is =
       let k : r ≡ read_result (loaded version machine words) = h.result ∙ ap read_result is in
       (cc, cc)
@@ -63,7 +64,7 @@ module _ (bytes : List ℕ) {memory memory₁ : List ℕ} {r : ReadResult} (h : 
 
   -- an image that is run
   module _ {count version : ℕ} (e : r.answer ≡ ReadAnswer.Loaded count version) (kept : length memory₁ ≡ length memory) where
-    l : Loads (read_of bytes (length memory)) memory memory₁ r count version
+    l : Loads bytes memory memory₁ r count version
     l = loads h e
 
     pub within : count ≤ length memory₁

@@ -74,8 +74,8 @@ module _ {start : Machine} {memory₀ out₀ : List ℕ} {at₀ : ℕ} where
       words_are : memory' ≡ (one_run machine memory).memory
       words_are = left_in memory ledger_board 0 machine 1 accepted h
 
-      pub total-fits : clocks + r.clocks ≤ 200
-      total-fits =
+      pub total_fits : clocks + r.clocks ≤ 200
+      total_fits =
           omega (
             arith,
             clocks-so-far,

@@ -8,7 +8,7 @@ use lib.Dec.{ltb, leb, leb-zero}
 use lib.ListN.{length}
 use borrow.Author.Tests.{ltb-true, lt-ltb, le-leb, leb-true}
 use Rattle.model.specs.declared.Refusal.{Refusal}
-use Rattle.model.specs.declared.Refusal.TheVariants.{NoWords, TooManyWords, LongWaitList, BadGateState, ShortOutput, CutImage, WrongTag, WrongLength, WrongVersion, BadFlag, BadWordCount, ShortMemory, TrailingBytes, TooManyFiles, FileMisplaced, WordsMismatched, BottomTooHigh, ResetsNotRising, BadAddress, UnchangedWord, WrongBase}
+use Rattle.model.specs.declared.Refusal.TheVariants.{NoWords, TooManyWords, LongWaitList, BadGateState, ShortOutput, CutImage, WrongTag, WrongLength, WrongVersion, BadFlag, BadWordCount, ShortMemory, TrailingBytes, TooManyFiles, FileMisplaced, WordsMismatched, BottomTooHigh, ResetsNotRising}
 use Rattle.model.specs.declared.Verdict.{Verdict}
 use Rattle.model.specs.declared.Verdict.TheVariants.{Accepted, Refused}
 use Rattle.model.specs.Waits.{position_fits}
@@ -44,8 +44,8 @@ pub run-accepted : (memory : List ℕ) → 0 < length memory → length memory �
 unfolding run_verdict position_fits
 run-accepted memory some most = rw (memory-accepted memory some most, leb-zero (length memory))
 
--- a refusal has a number from 1 to 27
-pub numbered : (why : Refusal) → (1 ≤ refusal_number why) × (refusal_number why ≤ 27)
+-- a refusal has a number from 1 to 22
+pub numbered : (why : Refusal) → (1 ≤ refusal_number why) × (refusal_number why ≤ 22)
 numbered NoWords = (omega arith, omega arith)
 numbered TooManyWords = (omega arith, omega arith)
 numbered LongWaitList = (omega arith, omega arith)
@@ -64,9 +64,6 @@ numbered FileMisplaced = (omega arith, omega arith)
 numbered WordsMismatched = (omega arith, omega arith)
 numbered BottomTooHigh = (omega arith, omega arith)
 numbered ResetsNotRising = (omega arith, omega arith)
-numbered BadAddress = (omega arith, omega arith)
-numbered UnchangedWord = (omega arith, omega arith)
-numbered WrongBase = (omega arith, omega arith)
 
 pub accepted : (v : Verdict) → verdict_number v ≡ 0 → v ≡ Accepted
 accepted Accepted e = refl

@@ -3,7 +3,7 @@
 use Rattle.std.specs.Prelude.{ℕ, Bool, true, false, cond, ◌&&◌, List, eqb, ltb, leb, length}
 use Rattle.model.specs.declared.GateState.{GateState}
 use Rattle.model.specs.declared.Refusal.{Refusal}
-use Rattle.model.specs.declared.Refusal.TheVariants.{NoWords, TooManyWords, LongWaitList, BadGateState, ShortOutput, CutImage, WrongTag, WrongLength, WrongVersion, BadFlag, BadWordCount, ShortMemory, TrailingBytes, TooManyFiles, FileMisplaced, WordsMismatched, BottomTooHigh, ResetsNotRising, BadAddress, UnchangedWord, WrongBase}
+use Rattle.model.specs.declared.Refusal.TheVariants.{NoWords, TooManyWords, LongWaitList, BadGateState, ShortOutput, CutImage, WrongTag, WrongLength, WrongVersion, BadFlag, BadWordCount, ShortMemory, TrailingBytes, TooManyFiles, FileMisplaced, WordsMismatched, BottomTooHigh, ResetsNotRising}
 use Rattle.model.specs.declared.Verdict.{Verdict}
 use Rattle.model.specs.declared.Verdict.TheVariants.{Accepted, Refused}
 use Rattle.model.specs.Waits.{position_fits}
@@ -30,9 +30,6 @@ refusal_number FileMisplaced = 17
 refusal_number WordsMismatched = 18
 refusal_number BottomTooHigh = 21
 refusal_number ResetsNotRising = 22
-refusal_number BadAddress = 25
-refusal_number UnchangedWord = 26
-refusal_number WrongBase = 27
 
 -- 0 for a call that is carried out
 abbrev pub verdict_number : Verdict → ℕ

@@ -30,9 +30,6 @@ pub fn refusal_number(why: Refusal) -> u32
         Refusal::WordsMismatched => 18,
         Refusal::BottomTooHigh => 21,
         Refusal::ResetsNotRising => 22,
-        Refusal::BadAddress => 25,
-        Refusal::UnchangedWord => 26,
-        Refusal::WrongBase => 27,
     }
 }
 

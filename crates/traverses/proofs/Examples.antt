@@ -165,8 +165,7 @@ reasons : turned_down [] 1 [] (2 ∷ 1 ∷ 0 ∷ 0 ∷ sixty_five) 0
     ∷ turned_down (0 ∷ []) 0 (9 ∷ 9 ∷ []) (0 ∷ 1 ∷ 0 ∷ 0 ∷ []) 0
     ∷ turned_down (0 ∷ []) 0 (9 ∷ []) (0 ∷ 1 ∷ 0 ∷ 1 ∷ []) 0
     ∷ turned_down (0 ∷ []) 0 (9 ∷ []) (0 ∷ 1 ∷ 0 ∷ 1 ∷ []) 3
-    ∷ turned_down (0 ∷ []) 0 (9 ∷ []) (0 ∷ 1 ∷ 0 ∷ 1 ∷ []) 4
-    ∷ [] ≡ 1 ∷ 21 ∷ 16 ∷ 17 ∷ 17 ∷ 18 ∷ 18 ∷ 11 ∷ 0 ∷ 11 ∷ []
+    ∷ [] ≡ 1 ∷ 21 ∷ 16 ∷ 17 ∷ 17 ∷ 18 ∷ 18 ∷ 11 ∷ 11 ∷ []
 unfolding file_verdict files_from files_in sizes all_placed traverse_verdict
 reasons = refl
 

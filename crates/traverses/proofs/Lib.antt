@@ -3,7 +3,6 @@ pub mod Reasons
 pub mod Noting
 pub mod Full
 pub mod OneFile
-mod Versions
 pub mod Pairs
 pub mod Plain
 pub mod Undone

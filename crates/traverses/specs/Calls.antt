@@ -26,9 +26,9 @@ files_fit files memory bottom load =
     then demand (all_placed files memory bottom) FileMisplaced
     then demand (eqb (sizes files) (length load)) WordsMismatched
 
--- 11: the versions that have a rule: 1 has rule 1, 2 and 3 (CR 12) have rule 2
+-- 11: the versions that have a rule
 abbrev pub has_rule : (version : ℕ) → Bool
-has_rule version = eqb version 1 || eqb version 2 || eqb version 3
+has_rule version = eqb version 1 || eqb version 2
 
 abbrev pub version_fits : ℕ → Verdict
 version_fits version = demand (has_rule version) WrongVersion

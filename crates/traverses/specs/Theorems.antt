@@ -5,7 +5,7 @@
 use Rattle.std.specs.Prelude.{ℕ, ◌+◌, ◌*◌, ◌≤◌, ◌<◌, ◌≡◌, Bool, true, false, not, cond, ◌&&◌, List, [], ◌∷◌, ◌++◌, eqb, leb, length, get_or, take}
 use Rattle.model.specs.declared.Machine.{Machine}
 use Rattle.model.specs.Words.{bit, word_at}
-use Rattle.model.specs.Interpreter.{goes_on, address_b, next_runs, alters_memory, begin, interpret}
+use Rattle.model.specs.Interpreter.{goes_on_lem, address_b, next_runs, alters_memory, begin, interpret}
 use Rattle.model.specs.Journal.{has_pair, room_in, noting, Noted, fresh, run_one, run_noted, completes}
 use Rattle.model.specs.Bottom.{never_stores_below}
 use Rattle.journal.specs.Undo.{undone, restored}
@@ -50,7 +50,7 @@ abbrev pub needs_one_more : (bottom room : ℕ) → Noted → Bool
 needs_one_more bottom room k =
     let memory = k.run.memory in
     let m = k.run.machine in
-    (goes_on k.run.ending && next_runs memory m && alters_memory memory m bottom)
+    (goes_on_lem k.run.ending && next_runs memory m && alters_memory memory m bottom)
     && not (has_pair k.pairs (address_b memory m)) && leb room (length k.pairs)
 
 abbrev pub FullWhen : Type 0
@@ -144,13 +144,6 @@ UndoneKeepsStart =
     (memory : List ℕ) (bottom : ℕ) (journal load files : List ℕ) (start : Machine) (version : ℕ) (memory' journal' : List ℕ) (r : TraverseResult)
     → Traverses memory bottom journal load files start version memory' journal' r
     → (full : Bool) (file : ℕ) → r.answer ≡ stopped_by full file → TakenBack bottom version journal load files start memory memory' file r
-
--- CR 12: the rule of version 2 holds for 3: a traverse answers and leaves the same under either number
-abbrev pub ThreeAsTwo : Type 0
-ThreeAsTwo =
-    (memory : List ℕ) (bottom : ℕ) (journal load files : List ℕ) (start : Machine) (memory' journal' : List ℕ) (r : TraverseResult)
-    → Traverses memory bottom journal load files start 3 memory' journal' r
-    → Traverses memory bottom journal load files start 2 memory' journal' r
 
 -- ---- where no file is undone under either rule, the rules agree: memory, machine and count
 

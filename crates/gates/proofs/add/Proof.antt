@@ -1,7 +1,7 @@
 use native.Mathlib.Omega.{arith}
 use borrow.Author.Rules.{rules}
 use Rattle.gate_network.proofs.Worth.{ripple_adds, adds-alike}
-use Rattle.gate_network.proofs.Halves.{halves-add}
+use Rattle.gate_network.proofs.Halves.{halves_add}
 use Rattle.gates.proofs.add.Statement.{statement}
 use Rattle.gates.proofs.add.Tie as tie
 
@@ -22,7 +22,7 @@ returns c = adds-alike (ripple_adds 32 _ _ _ (omega arith) (omega arith)) c.ripp
 
 -- 32 is the fifth power of two
 returns-2 : tie.Need-returns-2
-returns-2 c = adds-alike (halves-add 5 _ _ _ (omega arith) (omega arith)) c.by-halves.ensures
+returns-2 c = adds-alike (halves_add 5 _ _ _ (omega arith) (omega arith)) c.by-halves.ensures
 
 pub add_spec : {M : Type 1} → statement M
 add_spec =

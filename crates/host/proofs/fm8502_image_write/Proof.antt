@@ -1,7 +1,4 @@
 use borrow.Author.Rules.{rules}
-use Rattle.model.specs.declared.Machine.{Machine}
-use Rattle.image.specs.Format.{image_of}
-use Rattle.image.specs.Calls.{write_verdict}
 use Rattle.host.proofs.Answers.{write_misfit, write_formed}
 use Rattle.host.proofs.fm8502_image_write.Statement.{statement}
 use Rattle.host.proofs.fm8502_image_write.Tie as tie
@@ -10,7 +7,7 @@ machine-lent-requires : tie.Need-machine-lent-requires
 machine-lent-requires c κs = search rules
 
 returns : tie.Need-returns
-returns c = write_misfit _ _ _ c.before.before.machine-lent.ensures c.if1.true
+returns c = write_misfit _ _ _ _ _ _ c.before.before.machine-lent.ensures c.if1.true
 
 write-requires : tie.Need-write-requires
 write-requires c κs = search rules
@@ -29,10 +26,7 @@ returns-2 c =
     let ended = c.before.before in
     let called = ended.before.before.before.before in
     let tested = called.before.before in
-    let lent = tested.before.before in
-    let a = lent.before.before.before.before.before.args in
-    write_formed _ _ _ lent.machine-lent.ensures (λ (m : Machine). write_verdict a.memory.now a.version (image_of a.version m a.memory.now) a.out.now) (λ (m : Machine). image_of a.version m a.memory.now) _
-    tested.if1.false _ _ called.write.ensures _ _ ended.end-write.ensures
+    write_formed _ _ _ _ _ _ tested.before.before.machine-lent.ensures tested.if1.false _ _ called.write.ensures _ _ ended.end-write.ensures
 
 pub fm8502-image-write-spec : {M : Type 1} → statement M
 fm8502-image-write-spec =

@@ -36,8 +36,8 @@ load-memory-requires c κs =
     let e = c.before.before.word_count.ensures in
     (rw e h.0, rw e h.1)
 
-machine-in-requires : tie.Need-machine-in-requires
-machine-in-requires c κs =
+machine-at-requires : tie.Need-machine-at-requires
+machine-at-requires c κs =
     let told = c.before.before.before.before.before.before in
     let judged = told.before.before in
     let a = judged.before.before.before.args in
@@ -60,7 +60,7 @@ returns-2 c =
     let told = counted.before in
     let a = told.before.before.before.before.before.args in
     read-carried a.bytes.now a.memory.now _ _ _ _ (sym told.enum_told.given.1 ∙ told.before.before.image-verdict.ensures)
-    counted.word_count.ensures loading.before.before.image-version.ensures c.machine-in.ensures loading.load-memory.ensures
+    counted.word_count.ensures loading.before.before.image-version.ensures c.machine-at.ensures loading.load-memory.ensures
 
 pub read_spec : {M : Type 1} → statement M
 read_spec =
@@ -74,7 +74,7 @@ read_spec =
     image-version-requires
     cast-load-memory
     load-memory-requires
-    machine-in-requires
+    machine-at-requires
     returns
     same_length
     returns-2)

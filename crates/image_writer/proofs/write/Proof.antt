@@ -24,13 +24,8 @@ enum-known-why c = search rules
 enum_told : tie.Need-enum-told
 enum_told c = search rules
 
-cast-image-size : tie.Need-overflow-cast-image-size
-cast-image-size c =
-    let h = (memory-bounds c.before.before.before.before.before.args.memory.now (sym c.before.before.memory-fits.ensures ∙ c.enum_told.given.1)).1 in
-    omega (arith, h)
-
 image-size-requires : tie.Need-image-size-requires
-image-size-requires c κs = search rules
+image-size-requires c κs = (memory-bounds c.before.before.before.before.before.args.memory.now (sym c.before.before.memory-fits.ensures ∙ c.enum_told.given.1)).1
 
 returns : tie.Need-returns
 returns c =
@@ -87,7 +82,6 @@ write_spec =
     memory-fits-requires
     enum-known-why
     enum_told
-    cast-image-size
     image-size-requires
     returns
     is-version-requires

@@ -26,17 +26,17 @@ cast-count c = search rules
 slice-relend-prefix-put-run : tie.Need-slice-relend-prefix-put-run
 slice-relend-prefix-put-run c =
     let read = c.before.before.before.before.before.before.read in
-    within _ read.ensures c.before.before.answer2.given.1 read.auto.1.0
+    within read.ensures c.before.before.answer2.given.1 read.auto.1.0
 
 slice-aggregate-put-run : tie.Need-slice-aggregate-put-run
 slice-aggregate-put-run c =
     let read = c.before.before.before.before.before.before.before.read in
-    sym (length-take-le _ _ (within _ read.ensures c.before.before.before.answer2.given.1 read.auto.1.0))
+    sym (length-take-le _ _ (within read.ensures c.before.before.before.answer2.given.1 read.auto.1.0))
 
 put-run-requires : tie.Need-put-run-requires
 put-run-requires c κs =
     let read = c.before.before.before.before.before.before.before.before.read in
-    words-fit _ read.ensures c.before.before.before.before.answer2.given.1 read.auto.1.0
+    words-fit read.ensures c.before.before.before.before.answer2.given.1 read.auto.1.0
 
 same_length : tie.Need-same-length
 same_length c = search rules
@@ -47,7 +47,7 @@ same-length-2 c = search rules
 returns-2 : tie.Need-returns-2
 returns-2 c =
     let read = c.before.before.before.before.before.before.before.before.before in
-    report_refused _ read.read.ensures c.before.before.before.before.before.answer.given.1 read.before.before.if1.false
+    report_refused read.read.ensures c.before.before.before.before.before.answer.given.1 read.before.before.if1.false
     c.before.before.Put-refused.ensures
 
 same-length-3 : tie.Need-same-length-3
@@ -61,7 +61,7 @@ returns-3 c =
     let put = c.before.before.before.before in
     let told = put.before.before.before.before.before in
     let read = told.before.before.before.before in
-    report_carried _ read.read.ensures told.answer2.given.1 read.read.auto.1.0 read.before.before.if1.false
+    report_carried read.read.ensures told.answer2.given.1 read.read.auto.1.0 read.before.before.if1.false
     put.put-run.ensures put.put-run.auto.0
 
 pub report-spec : {M : Type 1} → statement M

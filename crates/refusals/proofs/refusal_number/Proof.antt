@@ -56,15 +56,6 @@ enum-told-17 c = search rules
 enum-told-18 : tie.Need-enum-told-18
 enum-told-18 c = search rules
 
-enum-told-19 : tie.Need-enum-told-19
-enum-told-19 c = search rules
-
-enum-told-20 : tie.Need-enum-told-20
-enum-told-20 c = search rules
-
-enum-told-21 : tie.Need-enum-told-21
-enum-told-21 c = search rules
-
 returns : tie.Need-returns
 returns c = rw c.enum_told.given.1
 
@@ -119,15 +110,6 @@ returns-17 c = rw c.enum-told17.given.1
 returns-18 : tie.Need-returns-18
 returns-18 c = rw c.enum-told18.given.1
 
-returns-19 : tie.Need-returns-19
-returns-19 c = rw c.enum-told19.given.1
-
-returns-20 : tie.Need-returns-20
-returns-20 c = rw c.enum-told20.given.1
-
-returns-21 : tie.Need-returns-21
-returns-21 c = rw c.enum-told21.given.1
-
 pub refusal-number-spec : {M : Type 1} → statement M
 refusal-number-spec =
     tie.close
@@ -150,9 +132,6 @@ refusal-number-spec =
     enum-told-16
     enum-told-17
     enum-told-18
-    enum-told-19
-    enum-told-20
-    enum-told-21
     returns
     returns-2
     returns-3
@@ -170,7 +149,4 @@ refusal-number-spec =
     returns-15
     returns-16
     returns-17
-    returns-18
-    returns-19
-    returns-20
-    returns-21)
+    returns-18)

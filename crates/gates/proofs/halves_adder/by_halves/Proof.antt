@@ -1,6 +1,6 @@
 use native.Mathlib.Omega.{arith}
 use borrow.Author.Rules.{rules}
-use Rattle.gates.proofs.Ranges.{halves-whole}
+use Rattle.gates.proofs.Ranges.{halves_whole}
 use Rattle.gates.proofs.halves_adder.by_halves.Statement.{statement}
 use Rattle.gates.proofs.halves_adder.by_halves.Tie as tie
 
@@ -17,7 +17,7 @@ returns : tie.Need-returns
 returns c =
     let added = c.before.before in
     let args = added.before.before.args in
-    halves-whole args.a.now args.b.now args.carry args.out.now (omega arith) added.range-sum.ensures c.before.range-carry.ensures
+    halves_whole args.a.now args.b.now args.carry args.out.now (omega arith) added.range-sum.ensures c.before.range-carry.ensures
     c.carry-past.ensures
 
 pub by-halves-spec : {M : Type 1} → statement M

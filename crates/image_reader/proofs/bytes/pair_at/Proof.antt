@@ -1,8 +1,5 @@
-use mathlib.Core.Path.{sym, ap}
 use native.Mathlib.Omega.{arith}
-use lib.ListN.{take, drop_of_length-le}
 use borrow.Author.Rules.{rules}
-use Rattle.image.specs.Bytes.{number_in}
 use Rattle.image.proofs.Places.{two_bytes}
 use Rattle.image_reader.proofs.bytes.pair_at.Statement.{statement}
 use Rattle.image_reader.proofs.bytes.pair_at.Tie as tie
@@ -24,25 +21,12 @@ add-result c = search rules
 
 returns : tie.Need-returns
 returns c =
-    let a = c.before.before.before.before.args in
+    let a = c.before.before.before.args in
     let first = c.before.byte_at.ensures in
     let second = c.byte-at2.ensures in
     record { is = omega (arith, first.is, second.is, two_bytes a.bytes.now a.at); small = omega (arith, first.small, second.small) }
 
-returns-2 : tie.Need-returns-2
-unfolding number_in
-returns-2 c =
-    let a = c.before.before.args in
-    record { is = sym (ap (λ l. number_in (take 2 l)) (drop_of_length-le a.bytes.now {i = a.at} c.if1.false)); small = omega arith }
-
 pub pair-at-spec : {M : Type 1} → statement M
 pair-at-spec =
     tie.close
-    (tie.spec
-    byte-at-requires
-    add-byte-at
-    byte-at-requires-2
-    mul-result
-    add-result
-    returns
-    returns-2)
+    (tie.spec byte-at-requires add-byte-at byte-at-requires-2 mul-result add-result returns)

@@ -28,7 +28,7 @@ returns : tie.Need-returns
 returns c =
     let last = c.before.before.before in
     let a = last.before.before.before.before.before.args in
-    head_of (λ version. a.known) (λ words. a.fits) a.bytes.now c.then3.ensures c.before.then2.ensures c.before.before.then.ensures
+    head_of a.bytes.now a.room c.then3.ensures c.before.then2.ensures c.before.before.then.ensures
     last.before.before.before.version-verdict.ensures last.before.before.header-verdict.ensures last.before.flags-verdict.ensures last.count-verdict.ensures
 
 pub head-verdict-spec : {M : Type 1} → statement M

@@ -1,40 +1,50 @@
-use mathlib.Core.Path.{ap, ◌∙◌}
+use mathlib.Core.Path.{sym, ◌∙◌}
+use native.Mathlib.Omega.{arith}
 use borrow.Author.Rules.{rules}
-use Rattle.image.specs.Reading.{count_fits}
-use Rattle.image.specs.Format.{is_version}
-use Rattle.image_reader.proofs.Answers.{all-asks}
+use Rattle.image_reader.proofs.Answers.{head_accepted, refused-head, accepted-head}
 use Rattle.image_reader.proofs.checks.image_verdict.Statement.{statement}
 use Rattle.image_reader.proofs.checks.image_verdict.Tie as tie
 
-image-version-requires : tie.Need-image-version-requires
-image-version-requires c κs = search rules
+head-verdict-requires : tie.Need-head-verdict-requires
+head-verdict-requires c κs = search rules
 
-is-version-requires : tie.Need-is-version-requires
-is-version-requires c κs = search rules
+enum-known-head : tie.Need-enum-known-head
+enum-known-head c = search rules
+
+enum_told : tie.Need-enum-told
+enum_told c = search rules
 
 word-count-requires : tie.Need-word-count-requires
 word-count-requires c κs = search rules
 
-count-fits-requires : tie.Need-count-fits-requires
-count-fits-requires c κs = search rules
+cast-tail-verdict : tie.Need-overflow-cast-tail-verdict
+cast-tail-verdict c = search rules
 
-all-verdict-requires : tie.Need-all-verdict-requires
-all-verdict-requires c κs = search rules
+tail-verdict-requires : tie.Need-tail-verdict-requires
+tail-verdict-requires c κs =
+    let a = c.before.before.before.before.before.args in
+    let h = head_accepted a.bytes.now a.room (sym c.before.before.before.head-verdict.ensures ∙ c.before.enum_told.given.1) in
+    omega (arith, c.word_count.ensures, h.0)
 
 returns : tie.Need-returns
 returns c =
+    let a = c.before.before.before.before.before.args in
+    refused-head a.bytes.now a.room (sym c.before.head.given.1 ∙ c.before.before.before.head-verdict.ensures)
+
+returns-2 : tie.Need-returns-2
+returns-2 c =
     let a = c.before.before.before.before.before.before.args in
-    c.all-verdict.ensures
-    ∙ all-asks is_version (count_fits a.room) a.bytes.now (c.before.before.before.is-version.ensures ∙ ap is_version c.before.before.before.before.image-version.ensures)
-    (c.before.count-fits.ensures ∙ ap (count_fits a.room) c.before.before.word_count.ensures)
+    accepted-head a.bytes.now a.room _ (sym c.before.before.enum_told.given.1 ∙ c.before.before.before.before.head-verdict.ensures) c.before.word_count.ensures c.tail-verdict.ensures
 
 pub image-verdict-spec : {M : Type 1} → statement M
 image-verdict-spec =
     tie.close
     (tie.spec
-    image-version-requires
-    is-version-requires
+    head-verdict-requires
+    enum-known-head
+    enum_told
     word-count-requires
-    count-fits-requires
-    all-verdict-requires
-    returns)
+    cast-tail-verdict
+    tail-verdict-requires
+    returns
+    returns-2)

@@ -2,8 +2,7 @@ use Prim.Native.Nat.{◌+◌, ◌≤◌, ◌<◌}
 use mathlib.Core.Path.{◌≡◌, refl, sym, ◌∙◌}
 use native.Mathlib.Omega.{arith}
 use borrow.Author.Rules.{rules}
-use Rattle.image.specs.Format.{span_of}
-use Rattle.image.proofs.Fields.{header-fits}
+use Rattle.image.specs.Format.{fields_for, span_of}
 use Rattle.image.proofs.Memories.{span_step}
 use Rattle.image_reader.specs.Passes.{tail_verdict}
 use Rattle.image_reader.proofs.Turns.{tail_refused, tail_goes, tail_end}
@@ -30,7 +29,8 @@ cast-header-verdict : tie.Need-overflow-cast-header-verdict invariant-loop decre
 cast-header-verdict c = omega arith
 
 header-verdict-requires : tie.Need-header-verdict-requires invariant-loop decreases-loop
-header-verdict-requires c κs = search rules
+unfolding fields_for
+header-verdict-requires c κs = omega arith
 
 enum-known-verdict : tie.Need-enum-known-verdict invariant-loop decreases-loop
 enum-known-verdict c = search rules
@@ -47,19 +47,15 @@ enum_told : tie.Need-enum-told invariant-loop decreases-loop
 enum_told c = search rules
 
 add_at : tie.Need-overflow-add-at invariant-loop decreases-loop
-add_at c =
-    let a = c.before.before.before.before.before.before.before.args in
-    let l = c.before.before.before.before.before.loop in
-    omega (arith, header-fits 5 _ l.at a.bytes.now (sym c.before.before.header-verdict.ensures ∙ c.enum_told.given.1))
+unfolding fields_for
+add_at c = omega arith
 
 mul_at : tie.Need-overflow-mul-at invariant-loop decreases-loop
 mul_at c = omega arith
 
 add-at-2 : tie.Need-overflow-add-at-2 invariant-loop decreases-loop
-add-at-2 c =
-    let a = c.before.before.before.before.before.before.before.args in
-    let l = c.before.before.before.before.before.loop in
-    omega (arith, header-fits 5 _ l.at a.bytes.now (sym c.before.before.header-verdict.ensures ∙ c.enum_told.given.1))
+unfolding fields_for
+add-at-2 c = omega arith
 
 sub-left : tie.Need-overflow-sub-left invariant-loop decreases-loop
 sub-left c = omega arith
@@ -75,15 +71,26 @@ loop-again c =
     let e = c.before.before.before.words-in-field.ensures in
     (omega arith, sym (span_step l.at l.left _ test e) ∙ l.invariant.1, tail_goes l.left l.at _ a.bytes.now test e c.enum_told.given.1 c.before.before.header-verdict.ensures l.invariant.2)
 
-end-verdict-requires : tie.Need-end-verdict-requires invariant-loop decreases-loop
-end-verdict-requires c κs = search rules
+header-verdict-requires-2 : tie.Need-header-verdict-requires-2 invariant-loop decreases-loop
+unfolding fields_for
+header-verdict-requires-2 c κs = omega arith
+
+add-last : tie.Need-overflow-add-last invariant-loop decreases-loop
+unfolding fields_for
+add-last c = omega arith
+
+demand-requires : tie.Need-demand-requires invariant-loop decreases-loop
+demand-requires c κs = search rules
+
+then-requires : tie.Need-then-requires invariant-loop decreases-loop
+then-requires c κs = search rules
 
 returns-2 : tie.Need-returns-2 invariant-loop decreases-loop
 returns-2 c =
-    let a = c.before.before.before.before.args in
-    let l = c.before.before.loop in
+    let a = c.before.before.before.before.before.before.args in
+    let l = c.before.before.before.before.loop in
     let z : l.left ≡ 0 = omega arith in
-    tail_end l.left l.at a.bytes.now z c.end-verdict.ensures l.invariant.2
+    tail_end l.left l.at a.bytes.now z c.then.ensures c.before.before.header-verdict2.ensures c.before.demand.ensures l.invariant.2
 
 pub tail-verdict-spec : {M : Type 1} → statement M
 tail-verdict-spec =
@@ -105,5 +112,8 @@ tail-verdict-spec =
     sub-left
     loop-less
     loop-again
-    end-verdict-requires
+    header-verdict-requires-2
+    add-last
+    demand-requires
+    then-requires
     returns-2)

@@ -1,30 +1,51 @@
-use mathlib.Core.Path.{sym, ap, ◌∙◌}
-use mathlib.Core.Bool.{Bool, cond}
-use lib.ListN.{length}
+use Prim.Native.Nat.{ℕ}
+use mathlib.Core.Path.{◌≡◌}
+use mathlib.Core.List.{List}
+use lib.Dec.{eqb}
+use lib.ListN.{drop}
 use borrow.Author.Rules.{rules}
-use borrow.Author.Tests.{le-leb, lt-leb}
-use Rattle.image.specs.Calls.{cleared_machine}
-use Rattle.image_reader.specs.Passes.{image_machine, machine_there}
+use Rattle.image.specs.Bytes.{words_in}
+use Rattle.image_reader.proofs.Head.{flag_at}
 use Rattle.image_reader.proofs.loads.machine_at.Statement.{statement}
 use Rattle.image_reader.proofs.loads.machine_at.Tie as tie
 
-machine-in-requires : tie.Need-machine-in-requires
-machine-in-requires c κs = search rules
+slice-aggregate-get-words : tie.Need-slice-aggregate-get-words
+slice-aggregate-get-words c = search rules
 
-cleared-machine-requires : tie.Need-cleared-machine-requires
-cleared-machine-requires c κs = search rules
+get-words-requires : tie.Need-get-words-requires
+get-words-requires c κs = search rules
+
+byte-at-requires : tie.Need-byte-at-requires
+byte-at-requires c κs = search rules
+
+byte-at-requires-2 : tie.Need-byte-at-requires-2
+byte-at-requires-2 c κs = search rules
+
+byte-at-requires-3 : tie.Need-byte-at-requires-3
+byte-at-requires-3 c κs = search rules
+
+byte-at-requires-4 : tie.Need-byte-at-requires-4
+byte-at-requires-4 c κs = search rules
 
 returns : tie.Need-returns
-unfolding machine_there
+unfolding words_in
 returns c =
-    let bytes = c.before.before.before.args.bytes.now in
-    c.machine-in.ensures ∙ sym (ap (λ (t : Bool). cond t (image_machine bytes) cleared_machine) (le-leb 39 (length bytes) c.before.if1.true))
-
-returns-2 : tie.Need-returns-2
-unfolding machine_there
-returns-2 c =
-    let bytes = c.before.before.before.args.bytes.now in
-    c.cleared-machine.ensures ∙ sym (ap (λ (t : Bool). cond t (image_machine bytes) cleared_machine) (lt-leb 39 (length bytes) c.before.if1.false))
+    let bytes : List ℕ = c.before.before.before.before.before.before.before.before.args.bytes.now in
+    let r : _ ≡ words_in 8 (drop 7 bytes) = c.before.before.before.before.before.get-words.ensures in
+    let e₀ = flag_at bytes 0 c.before.before.before.byte_at.ensures.is in
+    let e₁ = flag_at bytes 1 c.before.before.byte-at2.ensures.is in
+    let e₂ = flag_at bytes 2 c.before.byte-at3.ensures.is in
+    let e₃ = flag_at bytes 3 c.byte-at4.ensures.is in
+    λ i. record { regs = r i; flags = record { carry = eqb (e₀ i) 1; overflow = eqb (e₁ i) 1; negative = eqb (e₂ i) 1; zero = eqb (e₃ i) 1 } }
 
 pub machine-at-spec : {M : Type 1} → statement M
-machine-at-spec = tie.close (tie.spec machine-in-requires cleared-machine-requires returns returns-2)
+machine-at-spec =
+    tie.close
+    (tie.spec
+    slice-aggregate-get-words
+    get-words-requires
+    byte-at-requires
+    byte-at-requires-2
+    byte-at-requires-3
+    byte-at-requires-4
+    returns)

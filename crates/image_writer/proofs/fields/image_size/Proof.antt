@@ -28,5 +28,4 @@ returns c = omega arith
 
 pub image-size-spec : {M : Type 1} → statement M
 image-size-spec =
-    tie.close
-    (tie.spec mul-result add-result sub-result add-result-2 mul-result-2 add-result-3 returns)
+    tie.close (tie.spec mul-result add-result sub-result add-result-2 mul-result-2 add-result-3 returns)

@@ -1,7 +1,7 @@
 use mathlib.Core.Path.{sym}
 use borrow.Author.Rules.{rules}
 use Rattle.image.specs.Bytes.{bytes_of}
-use Rattle.image.specs.Format.{count_tag}
+use Rattle.image.specs.Format.{count_field}
 use Rattle.image.proofs.Bytes.{length-bytes}
 use Rattle.image_writer.proofs.Puts.{field_put}
 use Rattle.image_writer.proofs.fields.put_count.Statement.{statement}
@@ -23,7 +23,7 @@ returns : tie.Need-returns
 returns c =
     let a = c.before.before.before.before.before.before.before.before.before.args in
     let h = c.before.before.before.before.before.before.put-header in
-    field_put count_tag a.out.now h.new.0 _ a.at 4 (bytes_of 4 a.words) h.ensures c.before.before.put_word.ensures (sym (length-bytes 4 a.words))
+    field_put (count_field a.words) a.out.now h.new.0 _ a.at 4 (bytes_of 4 a.words) h.ensures c.before.before.put_word.ensures (sym (length-bytes 4 a.words))
 
 pub put-count-spec : {M : Type 1} → statement M
 put-count-spec =

@@ -1,7 +1,7 @@
 use mathlib.Core.Path.{refl}
 use borrow.Author.Rules.{rules}
 use Rattle.model.specs.Packed.{flag_numbers}
-use Rattle.image.specs.Format.{flags_tag}
+use Rattle.image.specs.Format.{flags_field}
 use Rattle.image_writer.proofs.Puts.{field_put}
 use Rattle.image_writer.proofs.fields.put_flags.Statement.{statement}
 use Rattle.image_writer.proofs.fields.put_flags.Tie as tie
@@ -35,7 +35,7 @@ returns c =
     let headed = c.before.before.before.before.before.before.before.before.before.before in
     let a = headed.before.before.before.args in
     let h = headed.put-header in
-    field_put flags_tag a.out.now h.new.0 _ a.at 4 (flag_numbers a.flags) h.ensures c.before.before.put_four.ensures refl
+    field_put flags_field a.out.now h.new.0 _ a.at 4 (flag_numbers a.flags) h.ensures c.before.before.put_four.ensures refl
 
 pub put-flags-spec : {M : Type 1} → statement M
 put-flags-spec =

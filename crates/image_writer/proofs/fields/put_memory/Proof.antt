@@ -8,7 +8,7 @@ use lib.Seq.{sets}
 use borrow.Author.Rules.{rules}
 use Rattle.model.proofs.Stores.{store_step, store-end}
 use Rattle.image.specs.Bytes.{word_bytes}
-use Rattle.image.specs.Format.{field_bytes, words_tag, words_per_field, fields_for, span_of, word_fields}
+use Rattle.image.specs.Format.{field_bytes, words_field, words_per_field, fields_for, span_of, memory_fields}
 use Rattle.image.proofs.Memories.{span_turn, next_field, length-word-field}
 use Rattle.image_writer.proofs.fields.put_memory.Statement.{statement}
 use Rattle.image_writer.proofs.fields.put_memory.Tie as tie
@@ -18,7 +18,7 @@ abbrev invariant-loop : tie.invariant-loop
 invariant-loop out₀ start memory at₀ from₀ out at from =
     (from ≤ length memory) × (length out ≡ length out₀)
     × (at + span_of (length memory - from) ≤ length out₀)
-    × (sets out at (word_fields words_tag (fields_for (length memory - from)) (drop from memory)) ≡ sets out₀ start (word_fields words_tag (fields_for (length memory)) memory))
+    × (sets out at (memory_fields (fields_for (length memory - from)) (drop from memory)) ≡ sets out₀ start (memory_fields (fields_for (length memory)) memory))
 
 abbrev decreases-loop : tie.decreases-loop
 decreases-loop out₀ start memory at₀ from₀ out at from = length memory - from
@@ -67,7 +67,7 @@ loop-again c =
       omega arith,
       w.auto.0 ∙ l.invariant.1,
       omega (arith, span_turn l.at (length memory) l.from count test e, l.invariant.2),
-      store_step l.out _ l.at _ (field_bytes words_tag (word_bytes (take count (drop l.from memory)))) _ _ w.ensures (omega arith)
+      store_step l.out _ l.at _ (field_bytes (words_field count) (word_bytes (take count (drop l.from memory)))) _ _ w.ensures (omega arith)
           (ap (sets l.out l.at) (sym (next_field memory l.from count test e)) ∙ l.invariant.3),
     )
 
@@ -75,12 +75,12 @@ same_length : tie.Need-same-length invariant-loop decreases-loop
 same_length c = omega arith
 
 returns : tie.Need-returns invariant-loop decreases-loop
-unfolding fields_for word_fields
+unfolding fields_for memory_fields
 returns c =
     let a = c.before.before.before.before.args in
     let l = c.before.loop in
     let e : length a.memory.now - l.from ≡ 0 = omega arith in
-    store-end l.out _ _ _ (ap (λ (n : ℕ). word_fields words_tag (fields_for n) (drop l.from a.memory.now)) e) l.invariant.3
+    store-end l.out _ _ _ (ap (λ (n : ℕ). memory_fields (fields_for n) (drop l.from a.memory.now)) e) l.invariant.3
 
 pub put-memory-spec : {M : Type 1} → statement M
 put-memory-spec =

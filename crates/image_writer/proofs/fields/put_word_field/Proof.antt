@@ -5,7 +5,7 @@ use native.Mathlib.Omega.{arith}
 use lib.ListN.{length, take, drop}
 use borrow.Author.Rules.{rules}
 use Rattle.image.specs.Bytes.{word_bytes}
-use Rattle.image.specs.Format.{words_tag}
+use Rattle.image.specs.Format.{words_field}
 use Rattle.image.proofs.Bytes.{length-word-bytes}
 use Rattle.image.proofs.Memories.{length_part}
 use Rattle.image_writer.proofs.Puts.{field_put}
@@ -36,7 +36,7 @@ returns c =
     let h = c.before.before.before.before.before.before.put-header in
     let words : List ℕ = take a.count (drop a.from a.memory.now) in
     let l : length words ≡ a.count = length_part a.memory.now a.from a.count (omega arith) in
-    field_put words_tag a.out.now h.new.0 _ a.at (4 * a.count) (word_bytes words) h.ensures c.before.before.put-words.ensures
+    field_put (words_field a.count) a.out.now h.new.0 _ a.at (4 * a.count) (word_bytes words) h.ensures c.before.before.put-words.ensures
     (ap (λ (n : ℕ). 4 * n) (sym l) ∙ sym (length-word-bytes words))
 
 pub put-word-field-spec : {M : Type 1} → statement M

@@ -3,7 +3,7 @@ use mathlib.Core.Path.{◌∙◌}
 use native.Mathlib.Omega.{arith}
 use borrow.Author.Rules.{rules}
 use Rattle.ledger_lines.specs.Lines.{most_lines}
-use Rattle.ledger_text.proofs.Turns.{At, begins, at_small, total-fits, turn, stopped, finished}
+use Rattle.ledger_text.proofs.Turns.{At, begins, at_small, total_fits, turn, stopped, finished}
 use Rattle.ledger_text.proofs.running.put_run.Statement.{statement}
 use Rattle.ledger_text.proofs.running.put_run.Tie as tie
 
@@ -23,7 +23,7 @@ fit_at : (t : tie.After-run-one invariant-loop decreases-loop)
     → t.before.before.before.before.before.before.loop.clocks + t.run-one.result.clocks ≤ 200
 fit_at t =
     let l = t.before.before.before.before.before.before in
-    total-fits l.loop.invariant t.run-one.ensures l.before.before.before.before.before.before.before.requires
+    total_fits l.loop.invariant t.run-one.ensures l.before.before.before.before.before.before.before.requires
 
 put-heading-requires : tie.Need-put-heading-requires invariant-loop decreases-loop
 put-heading-requires c κs = search rules
