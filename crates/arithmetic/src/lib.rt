@@ -1,4 +1,6 @@
 // The arithmetic unit of the FM8502: what it answers, and the unit on whole words.
+#![tactic(auto)]
+
 mod word;
 
 pub use word::{answer, word_unit};

@@ -1,6 +1,8 @@
 // Ledgers of document 01's example, of its bench words that have no star, and of images that show one rule each:
 // every refusal of an image, both endings, a program that overwrites itself, the largest image and the longest ledger.
 // Each function shows a few, as the proof of a long one takes long.
+#![tactic(auto)]
+
 mod images;
 
 use images::{machine, show_changed, show_part, show_program, show_short};

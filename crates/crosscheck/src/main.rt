@@ -8,6 +8,8 @@
 //   3, adder, n
 //     n operations with one adder (0 ripple, 1 by halves), one after the other, to be timed from outside
 // Any other kind ends the program, as the input's end does.
+#![tactic(auto)]
+
 mod input;
 mod lending;
 mod print;

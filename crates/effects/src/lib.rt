@@ -1,5 +1,7 @@
 // What an instruction word says of computing: the operation, whether the result is stored, the permitted flags. The interpreter carries
 // the flags packed and the gate machine apart. Leaves that both engines use.
+#![tactic(auto)]
+
 mod storing;
 
 ghost use Rattle.std.specs.Prelude.{◌≡◌, cond};

@@ -1,5 +1,7 @@
 // The loop that every run of whole instructions shares. One loop with one call of the step, waits and journal in it: a second one would cost both their
 // speed.
+#![tactic(auto)]
+
 mod clocks;
 
 ghost use Rattle.std.specs.Prelude.{◌≡◌, true, false};

@@ -1,5 +1,7 @@
 // The files of a traverse as they are lent, in a flat list of four numbers each: read, added up, and the first reason to turn a traverse
 // down.
+#![tactic(auto)]
+
 mod sums;
 
 ghost use Rattle.std.specs.Prelude.{◌≡◌, length};

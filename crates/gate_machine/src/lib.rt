@@ -1,4 +1,6 @@
 // The gate machine: a run of clocks.
+#![tactic(auto)]
+
 mod access;
 mod machine;
 mod parts;

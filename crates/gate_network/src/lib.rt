@@ -1,6 +1,7 @@
 // The arithmetic unit as a network of gates, and that it answers as the crate arithmetic defines at every width; no code. The theorems:
 // specs/Theorems.antt, proved in proofs/Worth.antt (the ripple adder), proofs/Halves.antt (the adder by halves) and proofs/Network.antt (the
 // unit).
+#![tactic(auto)]
 
 // The control lines: what steers the adder's rows and the flags.
 #[derive(Drop)]

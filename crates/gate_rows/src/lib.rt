@@ -1,4 +1,6 @@
 // The rows of the gate machine: the work of each on registers, latches and memory.
+#![tactic(auto)]
+
 mod compute;
 mod latches;
 mod row;

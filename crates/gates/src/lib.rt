@@ -1,5 +1,7 @@
 // The arithmetic unit of the FM8502 made of gates, with either of two adders, against the definition of the crate arithmetic. A gate is one of
 // `!`, `&`, `|` and `^` on single bits.
+#![tactic(auto)]
+
 mod bits;
 mod control;
 mod halves_adder;

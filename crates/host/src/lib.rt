@@ -1,5 +1,7 @@
 // The exported calls, for C, Rust and Python: numbers and slices alone. The crate host_reading has the layout of what is lent,
 // host_calls the codes that are returned and what each call leaves.
+#![tactic(auto)]
+
 ghost use Rattle.std.specs.Prelude.{[]};
 ghost use Rattle.host_calls.specs.Calls.{RunCall, FileCall, GateCall, TraverseCall, ReadCall, WriteCall};
 

@@ -1,1 +1,2 @@
 // The codes of the exported calls and what each call leaves, by definition, with an example of each; no code.
+#![tactic(auto)]

@@ -1,5 +1,7 @@
 // What a call of the host library writes at its end, and the code that it returns. Nothing is written unless the call was carried out; a file run
 // or a traverse that is undone, or whose journal was full, writes its result alone.
+#![tactic(auto)]
+
 mod codes;
 mod places;
 

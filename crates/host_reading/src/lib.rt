@@ -1,4 +1,6 @@
 // What a call of the host library starts from, read from lent words: specs/Layout.antt has their layout.
+#![tactic(auto)]
+
 mod formed;
 mod reading;
 

@@ -1,4 +1,6 @@
 // A machine and a gate state, written to lent words: specs/Words.antt says which.
+#![tactic(auto)]
+
 mod words;
 
 ghost use Rattle.std.specs.Prelude.{◌≡◌, length};

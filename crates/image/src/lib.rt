@@ -1,4 +1,6 @@
 // Images of the FM8502: the answers of the writer and of the reader. specs/ says what an image is.
+#![tactic(auto)]
+
 ghost use Rattle.std.specs.Prelude.{◌≡◌, min};
 ghost use Rattle.image.specs.Format.{is_version, words_per_field};
 

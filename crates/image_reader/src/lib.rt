@@ -1,4 +1,6 @@
 // Reads images of the FM8502.
+#![tactic(auto)]
+
 mod bytes;
 mod checks;
 mod loads;

@@ -1,4 +1,6 @@
 // Writes images of the FM8502.
+#![tactic(auto)]
+
 mod bytes;
 mod fields;
 

@@ -1,4 +1,6 @@
 // The interpreter: runs of whole instructions with waits and clocks, and the file run with its undo journal.
+#![tactic(auto)]
+
 ghost use Rattle.std.specs.Prelude.{◌≡◌};
 ghost use Rattle.model.specs.Board.{board_with};
 ghost use Rattle.interpreter.specs.Calls.{run_answer, file_answer_of, Runs, FileRuns};

@@ -1,4 +1,6 @@
 // Taking a run's stores to memory back, from its journal of addresses and former words.
+#![tactic(auto)]
+
 ghost use Rattle.std.specs.Prelude.{◌≡◌, ◌+◌, ◌*◌, ◌<◌, min, length};
 ghost use Rattle.model.specs.Words.{word_at, store_word};
 ghost use Rattle.model.specs.Journal.{room_in};

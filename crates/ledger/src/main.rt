@@ -1,4 +1,6 @@
 // Prints the ledger of the image on standard input. What is read and what is printed for it is `report_input`'s.
+#![tactic(auto)]
+
 use ledger_text::{LONGEST_TEXT, MOST_INPUT, ReportAnswer, report_input};
 use libc::{STDIN_FILENO, STDOUT_FILENO};
 

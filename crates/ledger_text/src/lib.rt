@@ -1,4 +1,6 @@
 // The ledger: what an image's first instructions do, as text.
+#![tactic(auto)]
+
 mod lines;
 mod running;
 

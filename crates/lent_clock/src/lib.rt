@@ -1,4 +1,6 @@
 // One clock of the gate machine on a borrowed state.
+#![tactic(auto)]
+
 ghost use Rattle.std.specs.Prelude.{[]};
 ghost use Rattle.model.specs.Board.{board_with};
 ghost use Rattle.gate_machine.specs.Calls.{GateRuns};

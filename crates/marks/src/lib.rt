@@ -1,4 +1,6 @@
 // Which addresses have a pair in a journal, by a map of bits for the pages that are stored to; and a store's pair noted.
+#![tactic(auto)]
+
 mod group;
 mod search;
 

@@ -1,5 +1,7 @@
 // Whether a word is an instruction, an instruction's operands, words of memory and a program's store to them: leaves that both engines
 // use.
+#![tactic(auto)]
+
 mod instruction;
 mod memory;
 mod operand;

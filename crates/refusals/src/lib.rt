@@ -1,4 +1,6 @@
 // Why a call is turned down, as code: the papers' numbers, what is demanded in turn, and the limits of a memory.
+#![tactic(auto)]
+
 ghost use Rattle.std.specs.Prelude.{◌≡◌};
 ghost use Rattle.model.specs.Refusals.{refusal_number, demand, ◌then◌, memory_fits};
 

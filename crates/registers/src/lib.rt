@@ -1,5 +1,7 @@
 // An operand's register: its word, a store into it, its steps before and after the access; the program counter's step. Leaves that both
 // engines use.
+#![tactic(auto)]
+
 ghost use Rattle.std.specs.Prelude.{◌≡◌, ◌<◌};
 ghost use Rattle.model.specs.Words.{inc, dec};
 ghost use Rattle.model.specs.Operands.{register_of, stepped, step_down, step_up, register_word, set_register};

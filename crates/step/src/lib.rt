@@ -1,4 +1,6 @@
 // One instruction of the machine, in the order (i) to (vi) of document 01.
+#![tactic(auto)]
+
 mod fetch;
 mod finish;
 mod keep;

@@ -1,4 +1,6 @@
 // The step table: next rows and control marks, by row.
+#![tactic(auto)]
+
 ghost use Rattle.std.specs.Prelude.{◌≡◌};
 ghost use Rattle.step_table.specs.Table.{step_table};
 

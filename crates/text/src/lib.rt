@@ -1,5 +1,7 @@
 // Text as bytes in a borrowed buffer. Bytes that would stand past the buffer's end are left out, so no call refuses;
 // each answers how long its text is.
+#![tactic(auto)]
+
 mod digits;
 
 ghost use Rattle.text.specs.Text.{decimal, hexadecimal, flag_digits, Puts};

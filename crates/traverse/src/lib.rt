@@ -1,4 +1,6 @@
 // A traverse: files laid and run one after the other on one memory, with an undo journal, under rule 1 or rule 2.
+#![tactic(auto)]
+
 mod file;
 mod lay;
 mod walk;

@@ -1,4 +1,6 @@
 // A traverse: up to 64 files on one memory. Its files, what it answers, and by definition what it means, with theorems and examples; no code.
+#![tactic(auto)]
+
 use model::{Machine, Refusal};
 
 // A file: where its words are laid, how many there are, its entry address and its instruction count.

@@ -1,4 +1,6 @@
 // The first reason to turn down a run, a file run and a gate run, in the papers' order.
+#![tactic(auto)]
+
 mod gate_state;
 mod rising;
 

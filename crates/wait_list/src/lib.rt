@@ -1,4 +1,6 @@
 // The wait list, which begins again at its end (document 02, CR 3): the one place of the code that says where.
+#![tactic(auto)]
+
 ghost use Rattle.std.specs.Prelude.{◌≡◌};
 ghost use Rattle.model.specs.Waits.{wait_at, next_position, position_fits};
 
