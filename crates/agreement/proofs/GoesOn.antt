@@ -6,7 +6,7 @@ use Rattle.model.specs.declared.Machine.{Machine}
 use Rattle.model.specs.declared.Ending.{Ending}
 use Rattle.model.specs.declared.Ending.TheVariants.{Finished, Outside, NoInstruction}
 use Rattle.model.specs.declared.Verdict.TheVariants.{Accepted}
-use Rattle.model.specs.Interpreter.{goes_on_lem, Run, begin, interpret}
+use Rattle.model.specs.Interpreter.{goes_on, Run, begin, interpret}
 use Rattle.model.specs.Refusals.{verdict_number, run_verdict}
 use Rattle.model.specs.Continuations.{run_sum}
 use Rattle.model.proofs.RunParts.{run-continuation}
@@ -18,7 +18,7 @@ use Rattle.interpreter.proofs.Answers.{returned, left_in}
 use Rattle.agreement.specs.GoesOn.{answer_sum, result_sum, RunGoesOn}
 
 -- the ending of two runs of the model, as an answer
-sum-answer : (a b : Ending) → run_answer (cond (goes_on_lem a) b a) ≡ answer_sum (run_answer a) (run_answer b)
+sum-answer : (a b : Ending) → run_answer (cond (goes_on a) b a) ≡ answer_sum (run_answer a) (run_answer b)
 sum-answer Finished b = refl
 sum-answer Outside b = refl
 sum-answer NoInstruction b = refl

@@ -18,7 +18,7 @@ use Rattle.model.proofs.Runs.{one_more, has_words, noted-words}
 use Rattle.model.proofs.Journals.{full-stays}
 use Rattle.marks.specs.Marks.{known, Tells}
 use Rattle.marks.proofs.Telling.{known-told, one-noted}
-use Rattle.step.specs.Keeping.{passed_by, no_room_lem}
+use Rattle.step.specs.Keeping.{passed_by, no_room}
 use Rattle.engine.specs.Keeping.{Kept, kept_at, kept_after, keep_one, keep_run}
 use Rattle.engine.proofs.Turns.{full-kept}
 
@@ -116,7 +116,7 @@ module _ (words : ℕ) (journal map : List ℕ) (r : I.Run) (ps : List Pair) (t 
       let some : eqb (length map) 0 ≡ false = ne_eqb (length map) 0 (λ q. absurd (omega (arith, t.long))) in
       rw some (known-told t (omega (arith, fits, same-room)) p.address inside)
 
-  no_room_lem : no_room_lem places (length ps) ≡ leb (room_in journal) (length ps)
+  no_room_lem : no_room places (length ps) ≡ leb (room_in journal) (length ps)
   no_room_lem = ap (λ (n : ℕ). leb n (length ps)) same-room
 
   -- a store: its address has a pair, the journal is full, a pair is noted

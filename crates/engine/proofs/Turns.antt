@@ -23,7 +23,7 @@ use Rattle.model.proofs.Runs.{run_at, stays, no_store}
 use Rattle.model.proofs.Waits.{after-fits}
 use Rattle.model.proofs.Bounds.{clocks-le}
 use Rattle.step.specs.declared.Stepped.{Stepped}
-use Rattle.step.specs.Keeping.{passed_by, no_room_lem, Keeps}
+use Rattle.step.specs.Keeping.{passed_by, no_room, Keeps}
 use Rattle.step.specs.Steps.{Steps}
 use Rattle.step.proofs.Answers.{runs_on, next-kept, is-stepped, next-regs, next-flags, same_regs, same-words, same-places, same-marks, same-pairs, stops, stores, stores-none}
 use Rattle.marks.specs.declared.Noting.{Noting}
@@ -94,7 +94,7 @@ filled r places map pairs = record { run = r; places = places; map = map; pairs 
 kept_store : (board : Board) (r after : I.Run) (places map : List ℕ) (pairs : ℕ) (p : Pair) → stored_by board.bottom r ≡ p ∷ [] → I.advance board r ≡ after
     → keep_one board (kept_at r places map pairs)
     ≡ cond (passed_by map places pairs p.address) (kept_at after places map pairs)
-    (cond (no_room_lem places pairs) (filled r places map pairs)
+    (cond (no_room places pairs) (filled r places map pairs)
     (kept_at after (noted places pairs p.address p.former) (with_mark map p.address) (pairs + 1)))
 unfolding keep_one kept_after
 kept_store board r after places map pairs p e f = rw (e, f)
@@ -186,10 +186,10 @@ module _ {memory₀ : List ℕ} {board : Board} {from : ℕ} {journal₀ map₀ 
         stored : (p : Pair) → Keeps words' journal map pairs true p.address p.former memory' journal' map' (noting_at s.full pairs') → (after : I.Run)
             → keep_run board (i + 1) first'
             ≡ cond (passed_by map journal pairs p.address) (kept_at after journal map pairs)
-            (cond (no_room_lem journal pairs) (filled here journal map pairs)
+            (cond (no_room journal pairs) (filled here journal map pairs)
             (kept_at after (noted journal pairs p.address p.former) (with_mark map p.address) (pairs + 1)))
             → store_word words' p.address p.former ≡ memory
-            → (x : Bool) → passed_by map journal pairs p.address ≡ x → (y : Bool) → no_room_lem journal pairs ≡ y → Goes after
+            → (x : Bool) → passed_by map journal pairs p.address ≡ x → (y : Bool) → no_room journal pairs ≡ y → Goes after
         stored p g after kept undo true c y d =
             record {
               onward = λ f. (rw c at kept ∙ rw (rw c at g.places, rw c at g.marks, ap pairs_of (rw c at g.result)), rw c at g.words);
@@ -215,7 +215,7 @@ module _ {memory₀ : List ℕ} {board : Board} {from : ℕ} {journal₀ map₀ 
             by true q =
                 let p : Pair = record { address = I.address_b memory b; former = I.value_b memory b } in
                 let kept = next ∙ kept_store board here after journal map pairs p (stores h board position i clocks e ∙ rw q) n in
-                stored p (rw q at (next-kept h e)) after kept (back board h q) (passed_by map journal pairs p.address) refl (no_room_lem journal pairs) refl
+                stored p (rw q at (next-kept h e)) after kept (back board h q) (passed_by map journal pairs p.address) refl (no_room journal pairs) refl
 
       pub turn : I.goes_on s.ending ≡ true → s.full ≡ false
           → {w : Spent} → w ≡ spent_of board.waits (record { clocks = clocks; position = position }) s.oa s.ob s.stored

@@ -6,7 +6,7 @@ use Rattle.model.specs.Board.{Board}
 use Rattle.model.specs.Interpreter.{Run, advance}
 use Rattle.model.specs.Journal.{Pair, stored_by, noted}
 use Rattle.marks.specs.Marks.{with_mark}
-use Rattle.step.specs.Keeping.{passed_by, no_room_lem}
+use Rattle.step.specs.Keeping.{passed_by, no_room}
 
 pub record Kept : Type 0 where
   pub run : Run
@@ -23,7 +23,7 @@ unfoldable pub kept_after : Kept → (stores : List Pair) → (after : Run) → 
 kept_after k [] after = kept_at after k.places k.map k.pairs
 kept_after k (p ∷ ps) after =
     cond (passed_by k.map k.places k.pairs p.address) (kept_at after k.places k.map k.pairs)
-    (cond (no_room_lem k.places k.pairs)
+    (cond (no_room k.places k.pairs)
     (record { run = k.run; places = k.places; map = k.map; pairs = k.pairs; full = true })
     (kept_at after (noted k.places k.pairs p.address p.former) (with_mark k.map p.address) (k.pairs + 1)))
 

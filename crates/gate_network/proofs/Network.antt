@@ -1,7 +1,7 @@
 -- The unit's network answers as the definition does, at every width of k + 1 bits and with any adder.
 use Prim.Native.Nat.{ℕ, suc, ◌+◌, ◌-◌, ◌*◌, ◌/◌, ◌%◌, ◌^◌, ◌<◌}
 use mathlib.Core.Path.{◌≡◌, refl, sym, ap, subst, ◌∙◌}
-use mathlib.Core.Bool.{Bool, true, false, not, ◌&&◌, ◌||◌, xor, or_false}
+use mathlib.Core.Bool.{Bool, true, false, not, ◌&&◌, ◌||◌, xor, or-false}
 use mathlib.Core.List.{List}
 use native.Mathlib.Omega.{arith}
 use lib.Dec.{eqb}
@@ -87,7 +87,7 @@ module _ (k : ℕ) (l : Lines) (a b s : List Bool) (d : Bool) (la : length a ≡
   unfolding halved_of
   shifted e t z g p =
       plain t z g (shift_value k l a b e la lb)
-      ∙ same_answer k (ap (λ (t : Bool). value a / 2 + as_number t * 2 ^ k) p) ((λ j. (e j && get_or a 0 false) || false) ∙ or_false (get_or a 0 false) ∙ sym (value_low a)) refl
+      ∙ same_answer k (ap (λ (t : Bool). value a / 2 + as_number t * 2 ^ k) p) ((λ j. (e j && get_or a 0 false) || false) ∙ or-false (get_or a 0 false) ∙ sym (value_low a)) refl
 
 -- ---- the sixteen operations
 

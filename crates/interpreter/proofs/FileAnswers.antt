@@ -12,7 +12,7 @@ use Rattle.model.specs.declared.Refusal.{Refusal}
 use Rattle.model.specs.declared.Verdict.{Verdict}
 use Rattle.model.specs.declared.Verdict.TheVariants.{Accepted, Refused}
 use Rattle.model.specs.Words.{overlay}
-use Rattle.model.specs.Interpreter.{goes_on_lem, Run, begin}
+use Rattle.model.specs.Interpreter.{goes_on, Run, begin}
 use Rattle.model.specs.Journal.{Pair, room_in, Noted, fresh, run_noted, completes, journal_words}
 use Rattle.model.specs.Refusals.{verdict_number, left_by, memory_fits, bottom_fits, file_verdict}
 use Rattle.model.proofs.Waits.{first_fits}
@@ -34,7 +34,7 @@ use Rattle.interpreter.specs.Ends.{ended, FileEnds}
 
 -- ---- the end, by whether it finished
 
-module _ {memory journal : List ℕ} {start : Machine} {e : Ended} {a : FileAnswer} (told : a ≡ file_answer_of e.full e.ending) {g : Bool} (on : g ≡ goes_on_lem e.ending) where
+module _ {memory journal : List ℕ} {start : Machine} {e : Ended} {a : FileAnswer} (told : a ≡ file_answer_of e.full e.ending) {g : Bool} (on : g ≡ goes_on e.ending) where
   pub end-finished : (not e.full && g) ≡ true
       → FileEnds memory journal start e memory (record { answer = a; machine = e.machine; ran = e.ran; pairs = e.pairs })
   end-finished t = let q : ended e ≡ true = ap (λ (x : Bool). not e.full && x) (sym on) ∙ t in record { result = rw (q, told); words = rw q }
@@ -50,7 +50,7 @@ module _ (memory : List ℕ) (bottom : ℕ) (journal : List ℕ) (start : Machin
   whole = whole_file memory bottom journal start count
 
   file-numbered : (v : Verdict) → file_number (file_result v start whole).answer ≡ verdict_number v
-  file-numbered Accepted = go whole.full (goes_on_lem whole.run.ending)
+  file-numbered Accepted = go whole.full (goes_on whole.run.ending)
     where
       go : (f g : Bool) → file_number (cond f FileAnswer.Full (cond g FileAnswer.Finished FileAnswer.Undone)) ≡ 0
       go true g = refl
@@ -151,6 +151,6 @@ module _ {memory : List ℕ} {bottom : ℕ} {journal : List ℕ} {start : Machin
         let pairs : d.pairs ≡ length n.pairs = ap (λ (x : Ended). x.pairs) h.result ∙ i.counted in
         let words : memory' ≡ n.run.memory = h.words ∙ ap (λ (r : Run). r.memory) i.run in
         as_file memory bottom journal start count Accepted (sym p ∙ e)
-        (x.result ∙ rw (full, ending, machine, ran, pairs, machine-by n.full (goes_on_lem n.run.ending) n.run.machine))
-        (x.words ∙ rw (full, ending) (words-by n.full (goes_on_lem n.run.ending) memory' restores ∙ ap (λ (l : List ℕ). cond (completes n) l memory) words))
+        (x.result ∙ rw (full, ending, machine, ran, pairs, machine-by n.full (goes_on n.run.ending) n.run.machine))
+        (x.words ∙ rw (full, ending) (words-by n.full (goes_on n.run.ending) memory' restores ∙ ap (λ (l : List ℕ). cond (completes n) l memory) words))
         (h.places ∙ i.places ∙ laid-over journal n.pairs i.fits)

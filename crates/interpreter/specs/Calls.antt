@@ -8,7 +8,7 @@ use Rattle.model.specs.declared.Verdict.{Verdict}
 use Rattle.model.specs.declared.Verdict.TheVariants.{Accepted, Refused}
 use Rattle.model.specs.Words.{overlay}
 use Rattle.model.specs.Board.{Board, board_with}
-use Rattle.model.specs.Interpreter.{goes_on_lem, Run, begin, interpret}
+use Rattle.model.specs.Interpreter.{goes_on, Run, begin, interpret}
 use Rattle.model.specs.Journal.{room_in, Noted, fresh, run_noted, completes, journal_words}
 use Rattle.model.specs.Refusals.{refusal_number, verdict_number, left_by, run_verdict, file_verdict}
 use Rattle.interpreter.specs.declared.RunAnswer.{RunAnswer}
@@ -57,7 +57,7 @@ pub record Runs (memory : List ℕ) (board : Board) (position : ℕ) (start : Ma
 
 -- CR 11: "journal full"; else "finished" where the interpreter finishes, and "undone" where it stopped
 abbrev pub file_answer_of : (full : Bool) → Ending → FileAnswer
-file_answer_of full e = cond full FileAnswer.Full (cond (goes_on_lem e) FileAnswer.Finished FileAnswer.Undone)
+file_answer_of full e = cond full FileAnswer.Full (cond (goes_on e) FileAnswer.Finished FileAnswer.Undone)
 
 abbrev pub file_answer : Noted → FileAnswer
 file_answer k = file_answer_of k.full k.run.ending

@@ -12,7 +12,7 @@ use Rattle.model.specs.declared.Machine.{Machine}
 use Rattle.model.specs.declared.Ending.{Ending}
 use Rattle.model.specs.declared.Ending.TheVariants.{Finished, Outside, NoInstruction}
 use Rattle.model.specs.declared.Refusal.{Refusal}
-use Rattle.model.specs.Interpreter.{goes_on_lem, Run, begin, interpret}
+use Rattle.model.specs.Interpreter.{goes_on, Run, begin, interpret}
 use Rattle.model.specs.Refusals.{refusal_number}
 use Rattle.model.proofs.Waits.{no-wait}
 use Rattle.model.proofs.Bounds.{clocks-le, ran_le}
@@ -46,7 +46,7 @@ count-digits i n h small = go (ltb n 9) refl
 between-length : (before after : Run)
     → length (line_between before after) ≤ length (decimal after.ran) + length (decimal (after.clocks - before.clocks)) + 25
 unfolding line_between
-between-length before after = go (goes_on_lem after.ending) _ _
+between-length before after = go (goes_on after.ending) _ _
   where
     own : ℕ
     own = after.clocks - before.clocks

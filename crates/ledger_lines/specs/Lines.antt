@@ -5,7 +5,7 @@ use Rattle.model.specs.declared.Ending.{Ending}
 use Rattle.model.specs.declared.Ending.TheVariants.{Finished, Outside, NoInstruction}
 use Rattle.model.specs.declared.Refusal.{Refusal}
 use Rattle.model.specs.Board.{Board, board_with}
-use Rattle.model.specs.Interpreter.{pc, instruction, goes_on_lem, Run, begin, interpret}
+use Rattle.model.specs.Interpreter.{pc, instruction, goes_on, Run, begin, interpret}
 use Rattle.model.specs.Refusals.{refusal_number}
 use Rattle.image.specs.Reading.{Outcome, loaded, refused}
 use Rattle.text.specs.Text.{letters, space, line_feed, decimal, hexadecimal, flag_digits}
@@ -40,7 +40,7 @@ line number address word clocks flags =
 -- the line of the instruction between two states of a run, if it ran
 unfoldable pub line_between : (before after : Run) → List ℕ
 line_between before after =
-    cond (goes_on_lem after.ending)
+    cond (goes_on after.ending)
     (line
     after.ran
     (pc before.memory before.machine)

@@ -8,7 +8,7 @@ use native.Mathlib.Numerals.{add-one}
 use native.Mathlib.Omega.{arith}
 use Rattle.model.specs.declared.Machine.{Machine}
 use Rattle.model.specs.declared.Ending.TheVariants.{Finished}
-use Rattle.model.specs.Interpreter.{pc, instruction, goes_on_lem, Run, begin, execute, stop, advance, interpret}
+use Rattle.model.specs.Interpreter.{pc, instruction, goes_on, Run, begin, execute, stop, advance, interpret}
 use Rattle.model.proofs.Cases.{onward}
 use Rattle.model.proofs.Waits.{position-stays}
 use Rattle.model.proofs.Runs.{run_at, one_more, stopped-stays}
@@ -37,11 +37,11 @@ module _ (m : Machine) (memory : List ℕ) (ran clocks : ℕ) where
 
   -- where it did not run: how the run ends before it, with the memory as it was
   pub stops : (one_run m memory).ran ≡ 0
-      → (advance ledger_board here ≡ stop (one_run m memory).ending here) × ((one_run m memory).memory ≡ memory) × (goes_on_lem (one_run m memory).ending ≡ false)
+      → (advance ledger_board here ≡ stop (one_run m memory).ending here) × ((one_run m memory).memory ≡ memory) × (goes_on (one_run m memory).ending ≡ false)
   unfolding interpret advance execute stop
   stops =
       one_more ledger_board
-      (λ (o : Run). o.ran ≡ 0 → (advance ledger_board here ≡ stop o.ending here) × (o.memory ≡ memory) × (goes_on_lem o.ending ≡ false))
+      (λ (o : Run). o.ran ≡ 0 → (advance ledger_board here ≡ stop o.ending here) × (o.memory ≡ memory) × (goes_on o.ending ≡ false))
       alone
       (λ _ _ e. absurd (omega arith))
       (λ _ t _. (rw t, refl, t))
@@ -51,11 +51,11 @@ module _ (m : Machine) (memory : List ℕ) (ran clocks : ℕ) where
 
 module _ (start : Run) where
   -- nothing changes after a stop
-  between-same : (r : Run) → goes_on_lem r.ending ≡ false → line_between r r ≡ []
+  between-same : (r : Run) → goes_on r.ending ≡ false → line_between r r ≡ []
   unfolding line_between
   between-same r e = rw e
 
-  lines_stay : {n k : ℕ} → n ≤ k → goes_on_lem (interpret ledger_board n start).ending ≡ false → lines k start ≡ lines n start
+  lines_stay : {n k : ℕ} → n ≤ k → goes_on (interpret ledger_board n start).ending ≡ false → lines k start ≡ lines n start
   unfolding lines
   lines_stay {n} h e =
       onward (λ (k : ℕ). lines k start ≡ lines n start) h refl
@@ -95,9 +95,9 @@ module _ (start : Run) where
     last-lines e =
         ap₂ (λ (a b : Run). lines n start ++ line_between a b) at (last-run e) ∙ rw (stops m memory n clocks e).2 (append-nil (lines n start))
 
-    has-stopped : (one_run m memory).ran ≡ 0 → goes_on_lem (interpret ledger_board (suc n) start).ending ≡ false
+    has-stopped : (one_run m memory).ran ≡ 0 → goes_on (interpret ledger_board (suc n) start).ending ≡ false
     unfolding stop
-    has-stopped e = ap (λ (r : Run). goes_on_lem r.ending) (last-run e) ∙ (stops m memory n clocks e).2
+    has-stopped e = ap (λ (r : Run). goes_on r.ending) (last-run e) ∙ (stops m memory n clocks e).2
 
     pub stopped-run : n < most_lines → (one_run m memory).ran ≡ 0
         → interpret ledger_board most_lines start ≡ stop (one_run m memory).ending (run_at m memory 0 n clocks)

@@ -18,9 +18,9 @@ use Rattle.marks.proofs.Marking.{or_bit, no-bit, sets-before, cleared, spare-fit
 
 -- ---- the pairs in a journal's places
 
-or_false : (t : Bool) → (t || false) ≡ t
-or_false true = refl
-or_false false = refl
+or-false : (t : Bool) → (t || false) ≡ t
+or-false true = refl
+or-false false = refl
 
 or_assoc : (x y z : Bool) → ((x || y) || z) ≡ (x || (y || z))
 or_assoc true y z = refl
@@ -28,14 +28,14 @@ or_assoc false y z = refl
 
 has-one-more : (ps : List Pair) (p : Pair) (a : ℕ) → has_pair (ps ++ p ∷ []) a ≡ (has_pair ps a || eqb p.address a)
 unfolding has_pair
-has-one-more [] p a = or_false (eqb p.address a)
+has-one-more [] p a = or-false (eqb p.address a)
 has-one-more (q ∷ ps) p a =
     ap (λ (t : Bool). eqb q.address a || t) (has-one-more ps p a) ∙ sym (or_assoc (eqb q.address a) (has_pair ps a) (eqb p.address a))
 
 -- a pair in front
 listed-front : (x y : ℕ) (words : List ℕ) (k a : ℕ) → listed (x ∷ y ∷ words) (suc k) a ≡ (eqb x a || listed words k a)
 unfolding listed
-listed-front x y words zero a = sym (or_false (eqb x a))
+listed-front x y words zero a = sym (or-false (eqb x a))
 listed-front x y words (suc k) a =
     let e : 2 * suc k ≡ suc (suc (2 * k)) = omega arith in
     ap (λ (t : Bool). t || eqb (word_at (x ∷ y ∷ words) (2 * suc k)) a) (listed-front x y words k a)
@@ -144,7 +144,7 @@ module _ {map journal : List ℕ} {ps : List Pair} {words : ℕ} (t : Tells map 
         go false e =
             let differ = eqb-false (place map b) (place map a) e in
             ap (λ (x : ℕ). bit x (b % 32)) (get_or-set_other map (place map a) (place map b) (word map a) 0 differ)
-            ∙ sym (or_false (bit (word_at map (place map b)) (b % 32)))
+            ∙ sym (or-false (bit (word_at map (place map b)) (b % 32)))
             ∙ ap (λ (z : Bool). bit (word_at map (place map b)) (b % 32) || z) (sym (ne_eqb a b (λ r. differ (ap (place map) (sym r)))))
 
     bit-marked : (b : ℕ) → b < words → group_of map b ≢ 0 → marked (with_bit map a) b ≡ (marked map b || eqb a b)
@@ -186,7 +186,7 @@ module _ {map journal : List ℕ} {ps : List Pair} {words : ℕ} (t : Tells map 
         apart = t.apart;
         told = λ b h n.
             t.told b h n
-            ∙ sym (has-one-more ps p b ∙ ap (λ (z : Bool). has_pair ps b || z) (ne_eqb p.address b (λ r. n (ap (group_of map) (sym r) ∙ zero'))) ∙ or_false (has_pair ps b));
+            ∙ sym (has-one-more ps p b ∙ ap (λ (z : Bool). has_pair ps b || z) (ne_eqb p.address b (λ r. n (ap (group_of map) (sym r) ∙ zero'))) ∙ or-false (has_pair ps b));
         none = λ b h z s. cc;
         front = e;
       }

@@ -10,7 +10,7 @@ use Rattle.model.specs.declared.GateState.{GateState}
 use Rattle.model.specs.declared.Ending.TheVariants.{NoInstruction}
 use Rattle.model.specs.Words.{is_instruction, present}
 use Rattle.model.specs.Waits.{wait_at, next_position, wait_sum}
-use Rattle.model.specs.Interpreter.{goes_on_lem, pc, instruction, next_ending, Run, interpret}
+use Rattle.model.specs.Interpreter.{goes_on, pc, instruction, next_ending, Run, interpret}
 use Rattle.model.specs.GateMachine.{Gate, gate, address_pc, work, is_access, clock, gate_run}
 use Rattle.model.specs.Agreement.{machine_of, gate_from, interpreter_from}
 use Rattle.model.specs.Halting.{halted_after, Halted, Halts, Halting}
@@ -95,5 +95,5 @@ pub halting : Halting
 halting board s memory n k h e =
     let first = interpreter_from s memory in
     let w = follows board (gate_from s memory) first (begins board memory s h) n in
-    let why = stopped_by board n first refl (ap goes_on_lem e) in
+    let why = stopped_by board n first refl (ap goes_on e) in
     halted board (gate_from s memory) (interpret board n first) w (sym why ∙ e) k

@@ -8,7 +8,7 @@ use lib.Dec.{eqb, leb}
 use lib.ListN.{length, length-append}
 use borrow.Author.Tests.{leb-true, leb-false, le-leb, lt-leb}
 use Rattle.model.specs.Board.{Board}
-use Rattle.model.specs.Interpreter.{goes_on_lem, Run, advance, interpret}
+use Rattle.model.specs.Interpreter.{goes_on, Run, advance, interpret}
 use Rattle.model.specs.Journal.{Pair, stored_by, has_pair, noting, Noted, within, run_one, run_noted, fresh, journal_pairs}
 use Rattle.model.proofs.Cases.{pick}
 use Rattle.model.proofs.Runs.{pairs-le}

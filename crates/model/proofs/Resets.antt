@@ -24,9 +24,9 @@ same-eqb a b c d to back = go (eqb a b) refl
 unlike : (n i : ℕ) (rest : Bool) → (n ≡ i → ⊥) → (eqb n i || rest) ≡ rest
 unlike n i rest h = rw (ne_eqb n i h)
 
-or_false : (t : Bool) → (t || false) ≡ t
-or_false true = refl
-or_false false = refl
+or-false : (t : Bool) → (t || false) ≡ t
+or-false true = refl
+or-false false = refl
 
 module _ (k : ℕ) where
   -- below k, and past it
@@ -83,7 +83,7 @@ reset-append (n ∷ a) b i = rw (reset-append a b i) (or_assoc (eqb n i))
 module _ (k : ℕ) (a b : List ℕ) where
   pub reset-before : (i : ℕ) → i < k → is_reset (resets_then k a b) i ≡ is_reset a i
   unfolding resets_then
-  reset-before i h = rw (reset-append (resets_below k a) (map (λ (n : ℕ). k + n) b) i, below-before k a i h, raised_before k b i h) (or_false (is_reset a i))
+  reset-before i h = rw (reset-append (resets_below k a) (map (λ (n : ℕ). k + n) b) i, below-before k a i h, raised_before k b i h) (or-false (is_reset a i))
 
   pub reset-then : (i : ℕ) → is_reset (resets_then k a b) (k + i) ≡ is_reset b i
   unfolding resets_then

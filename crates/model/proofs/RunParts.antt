@@ -8,7 +8,7 @@ use native.Mathlib.Omega.{arith}
 use Rattle.model.specs.declared.Ending.{Ending}
 use Rattle.model.specs.declared.Ending.TheVariants.{Finished, Outside, NoInstruction}
 use Rattle.model.specs.Board.{Board}
-use Rattle.model.specs.Interpreter.{goes_on_lem, next_ending, next_runs, Run, begin, execute, stop, advance, interpret}
+use Rattle.model.specs.Interpreter.{goes_on, next_ending, next_runs, Run, begin, execute, stop, advance, interpret}
 use Rattle.model.specs.Continuations.{RunContinuation}
 use Rattle.model.proofs.Runs.{stopped-stays, stopped_by}
 
@@ -31,7 +31,7 @@ module _ (board : Board) where
 
     advance-ahead : (r : Run) → advance board (ahead ran clocks r) ≡ ahead ran clocks (advance board r)
     unfolding advance stop
-    advance-ahead r = go (goes_on_lem r.ending) (goes_on_lem next)
+    advance-ahead r = go (goes_on r.ending) (goes_on next)
       where
         next : Ending
         next = next_ending r.memory r.machine
@@ -52,7 +52,7 @@ afresh : (r : Run) → r.ending ≡ Finished → r ≡ ahead r.ran r.clocks (beg
 afresh r e =
     λ i. record { machine = r.machine; memory = r.memory; position = r.position; ran = sym (add-zero r.ran) i; clocks = sym (add-zero r.clocks) i; ending = e i }
 
-goes_on_lem : (e : Ending) → goes_on_lem e ≡ true → e ≡ Finished
+goes_on_lem : (e : Ending) → goes_on e ≡ true → e ≡ Finished
 goes_on_lem Finished q = refl
 goes_on_lem Outside q = absurd (true≢false (sym q))
 goes_on_lem NoInstruction q = absurd (true≢false (sym q))
@@ -68,16 +68,16 @@ unfolding interpret advance stop
 stands board begun h zero = record { ending = begun.ending; same = refl }
 stands board begun h (suc n) = go (stands board begun h n)
   where
-    one : (e : Ending) (t : Bool) → goes_on_lem e ≡ t → Stands begun (advance board (stop e begun))
+    one : (e : Ending) (t : Bool) → goes_on e ≡ t → Stands begun (advance board (stop e begun))
     one e true q = record { ending = next_ending begun.memory begun.machine; same = rw (q, h) }
     one e false q = record { ending = e; same = rw q }
 
     go : Stands begun (interpret board n begun) → Stands begun (advance board (interpret board n begun))
-    go s = rw s.same (one s.ending (goes_on_lem s.ending) refl)
+    go s = rw s.same (one s.ending (goes_on s.ending) refl)
 
 pub run-continuation : RunContinuation
 unfolding stop
-run-continuation board m memory position i n = go (goes_on_lem first.ending) refl
+run-continuation board m memory position i n = go (goes_on first.ending) refl
   where
     start : Run
     start = begin m memory position
@@ -93,10 +93,10 @@ run-continuation board m memory position i n = go (goes_on_lem first.ending) ref
     sum t second =
         record { machine = second.machine; memory = second.memory; position = second.position; ran = first.ran + second.ran; clocks = first.clocks + second.clocks; ending = cond t second.ending first.ending }
 
-    go : (t : Bool) → goes_on_lem first.ending ≡ t → interpret board (i + n) start ≡ sum t (interpret board n next)
+    go : (t : Bool) → goes_on first.ending ≡ t → interpret board (i + n) start ≡ sum t (interpret board n next)
     go true q = run-add board i n start ∙ ap (interpret board n) (afresh first (goes_on_lem first.ending q)) ∙ run-ahead board first.ran first.clocks n next
     go false q =
-        let still = stands board next (ap goes_on_lem (sym (stopped_by board i start refl q)) ∙ q) n in
+        let still = stands board next (ap goes_on (sym (stopped_by board i start refl q)) ∙ q) n in
         stopped-stays board start (omega arith) q
         ∙ (λ j. record { machine = first.machine; memory = first.memory; position = first.position; ran = sym (add-zero first.ran) j; clocks = sym (add-zero first.clocks) j; ending = first.ending })
         ∙ ap (sum false) (sym still.same)

@@ -5,7 +5,7 @@ use mathlib.Core.Bool.{Bool, true, false, cond}
 use mathlib.Core.List.{List, []}
 use Rattle.model.specs.declared.Ending.{Ending}
 use Rattle.model.specs.Board.{board_with}
-use Rattle.model.specs.Interpreter.{goes_on_lem, next_ending, next_runs, Run, execute, stop, advance, interpret}
+use Rattle.model.specs.Interpreter.{goes_on, next_ending, next_runs, Run, execute, stop, advance, interpret}
 use Rattle.model.specs.Waiting.{Work, work_of, WaitsOnlyWait}
 
 -- a run that did this work, with no clocks and at the head of its list
@@ -19,7 +19,7 @@ module _ (bottom : ℕ) where
 
   advance-work : (waits : List ℕ) (r : Run) → work_of (advance (board_with bottom waits) r) ≡ next (work_of r)
   unfolding next advance execute stop
-  advance-work waits r = go (goes_on_lem r.ending) (next_runs r.memory r.machine)
+  advance-work waits r = go (goes_on r.ending) (next_runs r.memory r.machine)
     where
       why : Ending
       why = next_ending r.memory r.machine

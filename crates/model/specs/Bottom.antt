@@ -9,7 +9,7 @@ use Rattle.model.specs.declared.Verdict.TheVariants.{Accepted, Refused}
 use Rattle.model.specs.Words.{present, store_word, alterable, store_above}
 use Rattle.model.specs.Board.{Board, board_with}
 use Rattle.model.specs.Resets.{is_reset}
-use Rattle.model.specs.Interpreter.{goes_on_lem, address_b, next_runs, stores_to_memory, Run, interpret}
+use Rattle.model.specs.Interpreter.{goes_on, address_b, next_runs, stores_to_memory, Run, interpret}
 use Rattle.model.specs.Journal.{Pair, fresh, run_noted}
 use Rattle.model.specs.GateMachine.{Gate, remaining, gate_run}
 use Rattle.model.specs.Refusals.{memory_fits, run_verdict, file_verdict, gate_verdict}
@@ -54,7 +54,7 @@ abbrev pub stores_below : (bottom : ℕ) → Run → Bool
 stores_below bottom r =
     let memory = r.memory in
     let m = r.machine in
-    goes_on_lem r.ending && next_runs memory m && stores_to_memory memory m && not (alterable bottom (address_b memory m))
+    goes_on r.ending && next_runs memory m && stores_to_memory memory m && not (alterable bottom (address_b memory m))
 
 -- none of n instructions does, run on a board
 abbrev pub never_stores_below : (bottom : ℕ) → Board → ℕ → Run → Bool

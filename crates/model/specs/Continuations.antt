@@ -4,7 +4,7 @@ use Rattle.model.specs.declared.Machine.{Machine}
 use Rattle.model.specs.declared.GateState.{GateState}
 use Rattle.model.specs.Board.{Board}
 use Rattle.model.specs.Resets.{resets_below, resets_from, resets_then}
-use Rattle.model.specs.Interpreter.{goes_on_lem, Run, begin, interpret}
+use Rattle.model.specs.Interpreter.{goes_on, Run, begin, interpret}
 use Rattle.model.specs.GateMachine.{Gate, gate, gate_run}
 use Rattle.model.specs.Agreement.{gate_from}
 
@@ -41,7 +41,7 @@ run_sum first second =
       position = second.position;
       ran = first.ran + second.ran;
       clocks = first.clocks + second.clocks;
-      ending = cond (goes_on_lem first.ending) second.ending first.ending;
+      ending = cond (goes_on first.ending) second.ending first.ending;
     }
 
 -- a run of i + n instructions is one of i and then one of n from where it left off, its list position too; a first one that stopped is

@@ -27,10 +27,10 @@ accesses_of mem_a mem_b stored = 1 + as_number mem_a + as_number mem_b + as_numb
 -- ---- endings
 
 -- a run goes on with the next instruction where it has not stopped before one
-abbrev pub goes_on_lem : Ending → Bool
-goes_on_lem Finished = true
-goes_on_lem Outside = false
-goes_on_lem NoInstruction = false
+abbrev pub goes_on : Ending → Bool
+goes_on Finished = true
+goes_on Outside = false
+goes_on NoInstruction = false
 
 -- CR 5, why an instruction does not run: its address is missing, "outside"; its word is none, "no instruction"; an address of its A or B is
 -- missing, "outside". Where it runs, `Finished`.
@@ -87,7 +87,7 @@ module _ (memory : List ℕ) (m : Machine) where
   next_ending = ending_by (present memory pc) (is_instruction instruction) (present_a && present_b)
 
   abbrev pub next_runs : Bool
-  next_runs = goes_on_lem next_ending
+  next_runs = goes_on next_ending
 
   -- (iv) compute, set the permitted flags, store into B
   abbrev pub alu_out : AluOut
@@ -168,7 +168,7 @@ unfoldable pub advance : Board → Run → Run
 advance board r =
     let memory = r.memory in
     let m = r.machine in
-    cond (goes_on_lem r.ending) (cond (next_runs memory m) (execute board r) (stop (next_ending memory m) r)) r
+    cond (goes_on r.ending) (cond (next_runs memory m) (execute board r) (stop (next_ending memory m) r)) r
 
 unfoldable pub interpret : Board → ℕ → Run → Run
 interpret board zero r = r

@@ -9,7 +9,7 @@ use Rattle.model.specs.Words.{store_word}
 use Rattle.marks.specs.declared.Noting.{Noting}
 use Rattle.marks.specs.Marks.{has_mark, known, with_mark, noting_at, Notes}
 use Rattle.marks.proofs.Marking.{known-marked}
-use Rattle.step.specs.Keeping.{no_room_lem, Keeps}
+use Rattle.step.specs.Keeping.{no_room, Keeps}
 
 either : (a b c : Bool) → (a || b) ≡ true → (a || (b || c)) ≡ true
 either true b c e = refl
@@ -48,7 +48,7 @@ module _ (memory journal map : List ℕ) (pairs : ℕ) (stored : Bool) (address 
         let t = neither (not stored) (eqb (length map) 0) (known map journal pairs address) e in
         record {
           result = rw t h.result;
-          words = rw t (words-by (known map journal pairs address) (no_room_lem journal pairs) h.result free full);
+          words = rw t (words-by (known map journal pairs address) (no_room journal pairs) h.result free full);
           places = rw t h.places;
           marks = rw t h.marks;
         }

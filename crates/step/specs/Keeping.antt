@@ -10,18 +10,18 @@ use Rattle.marks.specs.Marks.{known, with_mark, noting_at}
 abbrev pub passed_by : (map journal : List ℕ) → (pairs address : ℕ) → Bool
 passed_by map journal pairs address = eqb (length map) 0 || known map journal pairs address
 
-abbrev pub no_room_lem : (journal : List ℕ) → (pairs : ℕ) → Bool
-no_room_lem journal pairs = leb (room_in journal) pairs
+abbrev pub no_room : (journal : List ℕ) → (pairs : ℕ) → Bool
+no_room journal pairs = leb (room_in journal) pairs
 
 -- whether the journal is full, and the number of its pairs
 abbrev pub kept_noting : (journal map : List ℕ) → (pairs : ℕ) → (stored : Bool) → (address : ℕ) → Noting
 kept_noting journal map pairs stored address =
     cond (not stored || passed_by map journal pairs address) (noting_at false pairs)
-    (cond (no_room_lem journal pairs) (noting_at true pairs) (noting_at false (pairs + 1)))
+    (cond (no_room journal pairs) (noting_at true pairs) (noting_at false (pairs + 1)))
 
 -- what is kept of a store that was done; where the journal is full it is taken back
 pub record Keeps (memory journal map : List ℕ) (pairs : ℕ) (stored : Bool) (address former : ℕ) (memory' journal' map' : List ℕ) (r : Noting) : Type 0 where
   pub result : r ≡ kept_noting journal map pairs stored address
-  pub words : memory' ≡ cond (not stored || passed_by map journal pairs address) memory (cond (no_room_lem journal pairs) (store_word memory address former) memory)
-  pub places : journal' ≡ cond (not stored || passed_by map journal pairs address) journal (cond (no_room_lem journal pairs) journal (noted journal pairs address former))
-  pub marks : map' ≡ cond (not stored || passed_by map journal pairs address) map (cond (no_room_lem journal pairs) map (with_mark map address))
+  pub words : memory' ≡ cond (not stored || passed_by map journal pairs address) memory (cond (no_room journal pairs) (store_word memory address former) memory)
+  pub places : journal' ≡ cond (not stored || passed_by map journal pairs address) journal (cond (no_room journal pairs) journal (noted journal pairs address former))
+  pub marks : map' ≡ cond (not stored || passed_by map journal pairs address) map (cond (no_room journal pairs) map (with_mark map address))

@@ -12,7 +12,7 @@ use Rattle.model.specs.declared.Verdict.{Verdict}
 use Rattle.model.specs.declared.Verdict.TheVariants.{Accepted, Refused}
 use Rattle.model.specs.Words.{word_at}
 use Rattle.model.specs.Board.{Board}
-use Rattle.model.specs.Interpreter.{goes_on_lem, Run, begin, address_b, next_runs, alters_memory, execute, stop, advance, interpret}
+use Rattle.model.specs.Interpreter.{goes_on, Run, begin, address_b, next_runs, alters_memory, execute, stop, advance, interpret}
 use Rattle.model.specs.Journal.{Pair, stored_by, has_pair, noting, Noted, within, fresh, room_in, run_one, run_noted}
 use Rattle.model.specs.Refusals.{file_verdict}
 use Rattle.model.proofs.Cases.{onward}
@@ -58,7 +58,7 @@ full-when bottom room k none fits =
     let memory = k.run.memory in
     let m = k.run.machine in
     store-full room k none fits (record { address = address_b memory m; former = word_at memory (address_b memory m) })
-    (goes_on_lem k.run.ending && next_runs memory m && alters_memory memory m bottom) (advance (file_board bottom) k.run)
+    (goes_on k.run.ending && next_runs memory m && alters_memory memory m bottom) (advance (file_board bottom) k.run)
 
 pub laid-full-when : LaidFullWhen
 unfolding lay_one
@@ -68,11 +68,11 @@ laid-full-when room k place word none fits =
 -- ---- a file run: where it is full first
 
 -- a run that has not stopped has run all its instructions
-all-ran : (board : Board) (n : ℕ) (r : Run) → goes_on_lem (interpret board n r).ending ≡ true → (interpret board n r).ran ≡ r.ran + n
+all-ran : (board : Board) (n : ℕ) (r : Run) → goes_on (interpret board n r).ending ≡ true → (interpret board n r).ran ≡ r.ran + n
 unfolding interpret execute stop
 all-ran board zero r e = omega arith
 all-ran board (suc n) r e =
-    one_more board (λ (x : Run). goes_on_lem x.ending ≡ true → x.ran ≡ r.ran + suc n) (interpret board n r)
+    one_more board (λ (x : Run). goes_on x.ending ≡ true → x.ran ≡ r.ran + suc n) (interpret board n r)
     (λ g _ _. omega (arith, all-ran board n r g))
     (λ _ t g. absurd (true≢false (sym g ∙ t)))
     (λ s g. absurd (true≢false (sym g ∙ s)))
@@ -123,11 +123,11 @@ module _ (memory : List ℕ) (bottom room : ℕ) (start : Machine) (i : ℕ) whe
       let same = not-full-run (file_board bottom) room i (begin start memory 0) [] none in
       let m = here.run.machine in
       let stored = here.run.memory in
-      let going : goes_on_lem here.run.ending ≡ true =
-      leading (goes_on_lem here.run.ending) (next_runs stored m) (alters_memory stored m bottom) (not (has_pair here.pairs (address_b stored m)))
+      let going : goes_on here.run.ending ≡ true =
+      leading (goes_on here.run.ending) (next_runs stored m) (alters_memory stored m bottom) (not (has_pair here.pairs (address_b stored m)))
       (leb room (length here.pairs)) needs in
       ap (λ (r : Run). r.ran) same
-      ∙ omega (arith, all-ran (file_board bottom) i (begin start memory 0) (ap (λ (r : Run). goes_on_lem r.ending) (sym same) ∙ going))
+      ∙ omega (arith, all-ran (file_board bottom) i (begin start memory 0) (ap (λ (r : Run). goes_on r.ending) (sym same) ∙ going))
 
   needs-here : here.full ≡ false → (run_one (file_board bottom) room here).full ≡ needs_one_more bottom room here
   needs-here none = full-when bottom room here none (room-kept (file_board bottom) room i (fresh (begin start memory 0) []) (omega arith))
@@ -135,9 +135,9 @@ module _ (memory : List ℕ) (bottom room : ℕ) (start : Machine) (i : ℕ) whe
 -- "journal full" tells that the run was carried out
 told-full : (v : Verdict) (start : Machine) (k : Noted) → (file_result v start k).answer ≡ FileAnswer.Full → (v ≡ Accepted) × (k.full ≡ true)
 told-full (Refused why) start k e = (cc, cc)
-told-full Accepted start k e = go k.full refl (goes_on_lem k.run.ending) refl
+told-full Accepted start k e = go k.full refl (goes_on k.run.ending) refl
   where
-    go : (f : Bool) → k.full ≡ f → (g : Bool) → goes_on_lem k.run.ending ≡ g → (Accepted ≡ Accepted) × (k.full ≡ true)
+    go : (f : Bool) → k.full ≡ f → (g : Bool) → goes_on k.run.ending ≡ g → (Accepted ≡ Accepted) × (k.full ≡ true)
     go true p g q = (refl, p)
     go false p true q = let z = rw (p, q) at e in (refl, cc)
     go false p false q = let z = rw (p, q) at e in (refl, cc)

@@ -12,7 +12,7 @@ use Rattle.model.specs.declared.Machine.{Machine}
 use Rattle.model.specs.declared.Verdict.{Verdict}
 use Rattle.model.specs.declared.Verdict.TheVariants.{Accepted, Refused}
 use Rattle.model.specs.Words.{overlay}
-use Rattle.model.specs.Interpreter.{goes_on_lem}
+use Rattle.model.specs.Interpreter.{goes_on}
 use Rattle.model.specs.Journal.{Pair, Noted, completes, journal_words}
 use Rattle.model.specs.Refusals.{left_by, file_verdict}
 use Rattle.model.proofs.Verdicts.{then_accepted}
@@ -45,7 +45,7 @@ module _ (version : ℕ) (start : Machine) (memory journal : List ℕ) (k : Note
       (traverse_result v version start t ≡ as_traverse version (file_result v start k))
       × (left_by v (cond (taken_back version t) memory t.memory) memory ≡ left_by v (memory_end memory k) memory)
 
-  same_end : (full done one : Bool) → k.full ≡ full → goes_on_lem k.run.ending ≡ done → eqb version 1 ≡ one → Same Accepted
+  same_end : (full done one : Bool) → k.full ≡ full → goes_on k.run.ending ≡ done → eqb version 1 ≡ one → Same Accepted
   same_end true done true e f g = (rw (e, g), rw (e, g))
   same_end true done false e f g = (rw (e, g), rw (e, g))
   same_end false true true e f g = (rw (e, f, g), rw (e, f, g))
@@ -54,7 +54,7 @@ module _ (version : ℕ) (start : Machine) (memory journal : List ℕ) (k : Note
   same_end false false false e f g = (rw (e, f, g), rw (e, f, g))
 
   same_by : (v : Verdict) → Same v
-  same_by Accepted = same_end k.full (goes_on_lem k.run.ending) (eqb version 1) refl refl refl
+  same_by Accepted = same_end k.full (goes_on k.run.ending) (eqb version 1) refl refl refl
   same_by (Refused why) = (refl, refl)
 
 either : {A : Type 0} (b : Bool) (x : A) → cond b x x ≡ x

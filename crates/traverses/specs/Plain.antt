@@ -3,7 +3,7 @@
 use Rattle.std.specs.Prelude.{ℕ, ◌+◌, ◌-◌, ◌^◌, cond, List, [], ◌∷◌, ◌++◌, eqb}
 use Rattle.model.specs.declared.Machine.{Machine}
 use Rattle.model.specs.Words.{word_at, store_word}
-use Rattle.model.specs.Interpreter.{goes_on_lem, Run, begin, interpret}
+use Rattle.model.specs.Interpreter.{goes_on, Run, begin, interpret}
 use Rattle.model.specs.Journal.{Pair, journal_pairs}
 use Rattle.interpreter.specs.Calls.{file_board}
 use Rattle.traverses.specs.declared.TraverseAnswer.{TraverseAnswer}
@@ -48,7 +48,7 @@ plain_out m memory = record { machine = m; memory = memory; pairs = []; files = 
 unfoldable pub plain_file : (bottom : ℕ) → Plain → Part → Plain
 plain_file bottom t p =
     let r = plain_run bottom t.machine t.memory p in
-    let done = goes_on_lem r.ending in
+    let done = goes_on r.ending in
     record {
       machine = cond done r.machine t.machine;
       memory = cond done r.memory t.memory;
