@@ -1,0 +1,7 @@
+use Rattle.refusals.proofs.demand.Goals as goal
+
+pub returns-then-holds : goal.returns-then-holds
+returns-then-holds c = rw c.if-holds.true
+
+pub returns-else-holds : goal.returns-else-holds
+returns-else-holds c = rw c.if-holds.false

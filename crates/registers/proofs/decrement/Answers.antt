@@ -1,0 +1,5 @@
+use Rattle.std.proofs.Common.{set, ap, arith, rules}
+use Rattle.registers.proofs.decrement.Goals as goal
+
+pub returns : goal.returns
+returns c = ap (set c.args.regs.now c.args.r) (omega (arith, c.wrapping_sub_u32.ensures.value))
