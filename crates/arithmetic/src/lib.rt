@@ -6,7 +6,7 @@ mod word;
 pub use word::{answer, word_unit};
 
 // A result with its four flags. In this order it has twelve bytes: eight would travel as one word, to be taken apart by each caller.
-#[derive(Drop)]
+#[derive(Clone, Copy)]
 pub struct AluOut {
     pub carry: bool,
     pub overflow: bool,

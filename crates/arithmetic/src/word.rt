@@ -10,7 +10,7 @@ use super::AluOut;
 const TOP: u32 = 0x8000_0000;
 
 // A result with the two flags that each operation sets by its own rule.
-#[derive(Drop)]
+#[derive(Clone, Copy)]
 struct Computed {
     carry: bool,
     overflow: bool,

@@ -9,7 +9,7 @@ use operands::in_memory;
 use wait_list::{next_position, position_fits};
 
 // Clocks so far, and the position in the wait list.
-#[derive(Drop)]
+#[derive(Clone, Copy)]
 pub struct Spent {
     pub clocks: u64,
     pub position: usize,

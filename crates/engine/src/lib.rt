@@ -18,7 +18,7 @@ use step::{goes_on, step};
 
 // A run at its end: whether it stopped because the journal is full, and if not, how it ended; its position in the wait list and the number of the
 // journal's pairs.
-#[derive(Drop)]
+#[derive(Clone, Copy)]
 pub struct Ended {
     pub full: bool,
     pub ending: Ending,

@@ -9,7 +9,7 @@ use wait_list::{next_position, wait_at};
 
 // Whether the row's work is done, whether it never will be, and the access as this clock leaves it.
 // Not packed into eight bytes: those would travel as one word, to be taken apart on each clock.
-#[derive(Drop)]
+#[derive(Clone, Copy)]
 pub struct Grant {
     pub works: bool,
     pub stuck: bool,

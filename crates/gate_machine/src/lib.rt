@@ -13,20 +13,20 @@ use model::{GateState, Refusal, Verdict};
 use resets::run_resets;
 use verdicts::gate_verdict;
 
-#[derive(Drop)]
+#[derive(Clone, Copy)]
 pub enum GateAnswer {
     Ran,
     Refused(Refusal),
 }
 
 // What a gate run answers beside its state.
-#[derive(Drop)]
+#[derive(Clone, Copy)]
 pub struct GateOutcome {
     pub answer: GateAnswer,
     pub finished: u64,
 }
 
-#[derive(Drop)]
+#[derive(Clone, Copy)]
 pub struct GateResult {
     pub outcome: GateOutcome,
     pub state: GateState,

@@ -15,7 +15,7 @@ use model::Verdict;
 use step_table::{ACCESS, FINISHES, STAYS, Step, steps};
 
 // Stuck: no further clock changes anything, unless reset is held on it.
-#[derive(Drop)]
+#[derive(Clone, Copy)]
 struct Ticked {
     latches: Latches,
     finished: bool,
@@ -23,7 +23,7 @@ struct Ticked {
 }
 
 // What clocks without resets leave beside registers and memory.
-#[derive(Drop)]
+#[derive(Clone, Copy)]
 pub struct Clocked {
     pub latches: Latches,
     pub finished: u64,

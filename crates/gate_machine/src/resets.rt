@@ -13,7 +13,7 @@ use super::parts::{latches_of, state_of};
 use gate_rows::Latches;
 use model::{GateState, Verdict};
 
-#[derive(Drop)]
+#[derive(Clone, Copy)]
 pub struct GateEnd {
     pub state: GateState,
     pub finished: u64,

@@ -4,7 +4,7 @@
 #![tactic(auto)]
 
 // The control lines: what steers the adder's rows and the flags.
-#[derive(Drop)]
+#[derive(Clone, Copy)]
 pub struct Lines {
     // The table of the first row's generator, by the bits of a and b.
     pub t00: bool,
@@ -23,7 +23,7 @@ pub struct Lines {
 }
 
 // What a range of bits does about carries, whatever comes in (CR 8): in other words, whether it generates and propagates one.
-#[derive(Drop)]
+#[derive(Clone, Copy)]
 pub struct RangeCarry {
     // It gives one out by itself.
     pub makes: bool,

@@ -2,7 +2,7 @@
 // The small fields stand together, so that a copy has no gap to carry.
 use model::Flags;
 
-#[derive(Drop)]
+#[derive(Clone, Copy)]
 pub struct Latches {
     pub instruction: u32,
     pub address: u32,

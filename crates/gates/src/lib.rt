@@ -20,7 +20,7 @@ use ripple_adder::ripple;
 use rows::adder_rows;
 
 // The adders that the unit may have.
-#[derive(Drop)]
+#[derive(Clone, Copy)]
 pub enum Adder {
     // The carry goes up from bit to bit.
     Ripple,

@@ -28,13 +28,13 @@ pub const TWO_PLACES: usize = 2;
 pub const ONE_PLACE: usize = 1;
 
 // A machine, and whether what is lent has the layout's lengths; all 0 where it has not.
-#[derive(Drop)]
+#[derive(Clone, Copy)]
 pub struct MachineLent {
     pub formed: bool,
     pub machine: Machine,
 }
 
-#[derive(Drop)]
+#[derive(Clone, Copy)]
 pub struct StateLent {
     pub formed: bool,
     pub state: GateState,

@@ -9,20 +9,20 @@ use model::{Machine, Refusal};
 pub const WORDS_PER_FIELD: usize = 1_024;
 
 // Written: how many bytes the image has.
-#[derive(Drop)]
+#[derive(Clone, Copy)]
 pub enum WriteAnswer {
     Written(usize),
     Refused(Refusal),
 }
 
 // Loaded: how many words the image has, and its version.
-#[derive(Drop)]
+#[derive(Clone, Copy)]
 pub enum ReadAnswer {
     Loaded(u32, u32),
     Refused(Refusal),
 }
 
-#[derive(Drop)]
+#[derive(Clone, Copy)]
 pub struct ReadResult {
     pub answer: ReadAnswer,
     pub machine: Machine,

@@ -12,7 +12,7 @@ use model::{Ending, Machine, Refusal, Verdict};
 use step::goes_on;
 use verdicts::{file_verdict, run_verdict};
 
-#[derive(Drop)]
+#[derive(Clone, Copy)]
 pub enum RunAnswer {
     Finished,
     Outside,
@@ -21,7 +21,7 @@ pub enum RunAnswer {
 }
 
 // position: where the wait list goes on.
-#[derive(Drop)]
+#[derive(Clone, Copy)]
 pub struct RunResult {
     pub answer: RunAnswer,
     pub machine: Machine,
@@ -31,7 +31,7 @@ pub struct RunResult {
 }
 
 // Full: a store needed one address more than the journal has pairs.
-#[derive(Drop)]
+#[derive(Clone, Copy)]
 pub enum FileAnswer {
     Finished,
     Undone,
@@ -40,7 +40,7 @@ pub enum FileAnswer {
 }
 
 // pairs: how many pairs the journal holds.
-#[derive(Drop)]
+#[derive(Clone, Copy)]
 pub struct FileResult {
     pub answer: FileAnswer,
     pub machine: Machine,

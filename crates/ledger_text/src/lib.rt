@@ -20,7 +20,7 @@ pub const MOST_INPUT: usize = 16_453;
 const MEMORY_WORDS: usize = 4_096;
 
 // Text: how many bytes the ledger has. NoRoom: the output has less room than the longest ledger needs.
-#[derive(Drop)]
+#[derive(Clone, Copy)]
 pub enum ReportAnswer {
     Text(usize),
     NoRoom,

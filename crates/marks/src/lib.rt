@@ -15,7 +15,7 @@ use search::is_unmarked_known;
 // stack, which takes 192 KiB.
 
 // Whether the journal had no room for a store's pair, and how many pairs it has now.
-#[derive(Drop)]
+#[derive(Clone, Copy)]
 pub struct Noting {
     pub full: bool,
     pub pairs: usize,

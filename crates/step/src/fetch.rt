@@ -8,7 +8,7 @@ use operands::{is_instruction, operand_a, operand_b};
 use registers::{register_word, set_register, step_pc};
 
 // Whether the instruction runs, or why not; its word, its operands A and B with their values, and the address of a B in memory.
-#[derive(Drop)]
+#[derive(Clone, Copy)]
 pub struct Fetched {
     pub ending: Ending,
     pub word: u32,

@@ -19,7 +19,7 @@ use model::{Ending, Operand};
 // What one instruction leaves: the flags, packed; its operands as decoded and whether its result was stored, which decide its clocks and
 // accesses; whether the journal had no room for its store. Where it had none, memory and journal are as before, and the registers have gone on.
 // Where it did not run, `ending` says why, and nothing has changed.
-#[derive(Drop)]
+#[derive(Clone, Copy)]
 pub struct Stepped {
     pub ending: Ending,
     pub flags: u32,

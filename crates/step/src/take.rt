@@ -7,7 +7,7 @@ use operands::load;
 use registers::{register_word, set_register, step_down};
 
 // Whether what the operand addresses is there, its register's word, its value.
-#[derive(Drop)]
+#[derive(Clone, Copy)]
 pub struct Taken {
     pub present: bool,
     pub word: u32,

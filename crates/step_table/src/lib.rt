@@ -15,7 +15,7 @@ pub const STAYS: u8 = 3;
 
 // A row of the table: the next row where an operand is in memory, where it is direct, and where nothing is stored or the word read is no
 // instruction; its mark.
-#[derive(Drop)]
+#[derive(Clone, Copy)]
 pub struct Step(pub u8, pub u8, pub u8, pub u8);
 
 pub type Table = [Step; 13];

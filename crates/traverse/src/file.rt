@@ -12,7 +12,7 @@ use traverses::File;
 
 // What a file leaves beside memory and journal: whether it finished, whether the journal was full, the machine, the instructions that ran, and the
 // journal's pairs.
-#[derive(Drop)]
+#[derive(Clone, Copy)]
 pub struct FileEnd {
     pub done: bool,
     pub full: bool,

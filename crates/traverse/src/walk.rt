@@ -9,7 +9,7 @@ use model::Machine;
 
 // A traverse so far: the machine, the journal's pairs, bit i for undone file i, the instructions that ran in the last file run, whether its journal
 // was full, and how many words were laid.
-#[derive(Drop)]
+#[derive(Clone, Copy)]
 pub struct Walk {
     pub machine: Machine,
     pub pairs: usize,

@@ -4,7 +4,7 @@
 use model::{Machine, Refusal};
 
 // A file: where its words are laid, how many there are, its entry address and its instruction count.
-#[derive(Drop)]
+#[derive(Clone, Copy)]
 pub struct File {
     pub place: u32,
     pub size: u32,
@@ -14,7 +14,7 @@ pub struct File {
 
 // Under rule 1 the undone files, bit i for file i; under rule 2 that no file is undone, or the number of the first that is, also where the
 // journal was full: a store or a laid word needed one address more than there are pairs.
-#[derive(Drop)]
+#[derive(Clone, Copy)]
 pub enum TraverseAnswer {
     Marked(u64),
     Finished,
@@ -24,7 +24,7 @@ pub enum TraverseAnswer {
 }
 
 // ran: the instructions that ran in the last file run. pairs: how many pairs the journal holds, under rule 1 those of the last file.
-#[derive(Drop)]
+#[derive(Clone, Copy)]
 pub struct TraverseResult {
     pub answer: TraverseAnswer,
     pub machine: Machine,

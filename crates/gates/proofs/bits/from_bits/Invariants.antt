@@ -1,0 +1,15 @@
+use Prim.Native.Nat.{ℕ, ◌≤◌}
+use mathlib.Core.Path.{◌≡◌, sym, ap, ◌∙◌}
+use native.Mathlib.Omega.{arith}
+use lib.ListN.{length, drop}
+use lib.Seq.{drop-length}
+use borrow.Author.Rules.{rules}
+use Rattle.gate_network.specs.Gates.{value}
+use Rattle.gate_network.proofs.Worth.{value-drop}
+use Rattle.gates.proofs.bits.from_bits.Given as goal
+
+abbrev pub invariant-loop-i : goal.invariant-loop-i
+invariant-loop-i l = (l.i ≤ length l.bits) × (l.r ≡ value (drop l.i l.bits))
+
+abbrev pub decreases-loop-i : goal.decreases-loop-i
+decreases-loop-i l = l.i

@@ -1,0 +1,5 @@
+use borrow.Author.Rules.{rules}
+use Rattle.gates.proofs.rows.first_bit.Goals as goal
+
+pub returns : goal.returns
+returns c = cc
