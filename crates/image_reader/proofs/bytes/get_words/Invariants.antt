@@ -1,0 +1,19 @@
+use Prim.Native.Nat.{ℕ, ◌+◌, ◌-◌, ◌*◌, ◌≤◌}
+use mathlib.Core.Path.{◌≡◌, refl, sym, ap, ◌∙◌}
+use mathlib.Core.List.{List, [], ◌∷◌}
+use native.Mathlib.Nat.{add-zero, sub-zero}
+use native.Mathlib.Omega.{arith}
+use lib.ListN.{length, take, drop, length-set}
+use lib.Seq.{sets}
+use Rattle.model.proofs.Stores.{store_step, store-end}
+use Rattle.image.specs.Bytes.{number_in, words_in}
+use Rattle.image.proofs.Places.{word_after}
+use Rattle.image_reader.proofs.bytes.get_words.Given as goal
+
+abbrev pub invariant-loop-i : goal.invariant-loop-i
+invariant-loop-i l =
+    (l.i ≤ l.count) × (length l.out ≡ length l.initial.out)
+    × (sets l.out (l.from + l.i) (words_in (l.count - l.i) (drop (l.at + 4 * l.i) l.bytes)) ≡ sets l.initial.out l.from (words_in l.count (drop l.at l.bytes)))
+
+abbrev pub decreases-loop-i : goal.decreases-loop-i
+decreases-loop-i l = l.count - l.i

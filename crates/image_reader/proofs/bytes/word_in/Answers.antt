@@ -1,0 +1,7 @@
+use native.Mathlib.Omega.{arith}
+use borrow.Author.Rules.{rules}
+use Rattle.image.proofs.Places.{four_bytes}
+use Rattle.image_reader.proofs.bytes.word_in.Goals as goal
+
+pub returns : goal.returns
+returns c = let a = c.args in omega (arith, four_bytes a.bytes.now a.at)

@@ -1,0 +1,21 @@
+use Prim.Native.Nat.{ℕ}
+use mathlib.Core.Path.{◌∙◌}
+use mathlib.Core.Bool.{◌&&◌}
+use mathlib.Core.List.{List}
+use lib.Dec.{leb}
+use lib.ListN.{drop}
+use borrow.Author.Rules.{rules}
+use Rattle.image.specs.Format.{flags_field}
+use Rattle.image.proofs.Headers.{with_rule}
+use Rattle.image_reader.proofs.Head.{flag_at, flags-checked}
+use Rattle.image_reader.proofs.checks.flags_verdict.Goals as goal
+
+pub returns : goal.returns
+returns c =
+    let bytes : List ℕ = c.args.bytes.now in
+    let e₀ = flag_at bytes 0 c.byte_at-c.ensures.is in
+    let e₁ = flag_at bytes 1 c.byte_at-v.ensures.is in
+    let e₂ = flag_at bytes 2 c.byte_at-n.ensures.is in
+    let e₃ = flag_at bytes 3 c.byte_at-z.ensures.is in
+    with_rule flags_field (drop 39 bytes) c.then.ensures c.header_verdict-header.ensures
+    (c.demand.ensures ∙ flags-checked bytes _ (λ i. leb (e₀ i) 1 && leb (e₁ i) 1 && leb (e₂ i) 1 && leb (e₃ i) 1))

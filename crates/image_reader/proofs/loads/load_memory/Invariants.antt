@@ -1,0 +1,25 @@
+use Prim.Native.Nat.{ℕ, ◌+◌, ◌-◌, ◌*◌, ◌≤◌, min}
+use mathlib.Core.Path.{◌≡◌, refl, sym, ap, ◌∙◌}
+use mathlib.Core.List.{List, ◌++◌}
+use native.Mathlib.Nat.{sub-zero}
+use native.Mathlib.Omega.{arith}
+use lib.ListN.{length, drop}
+use lib.Seq.{sets}
+use borrow.Author.Rules.{rules}
+use Rattle.model.proofs.Stores.{store_step, store-end}
+use Rattle.image.specs.Bytes.{words_in}
+use Rattle.image.specs.Format.{words_per_field, fields_for, span_of}
+use Rattle.image.proofs.Bytes.{length-words}
+use Rattle.image.proofs.Memories.{span_turn}
+use Rattle.image_reader.specs.Passes.{image_memory}
+use Rattle.image_reader.proofs.Turns.{memory-step}
+use Rattle.image_reader.proofs.loads.load_memory.Given as goal
+
+abbrev pub invariant-loop-from : goal.invariant-loop-from
+invariant-loop-from l =
+    (l.from ≤ l.words) × (length l.memory ≡ length l.initial.memory)
+    × (l.at + span_of (l.words - l.from) ≡ 53 + span_of l.words)
+    × (sets l.memory l.from (image_memory (fields_for (l.words - l.from)) (l.words - l.from) (drop l.at l.bytes)) ≡ sets l.initial.memory 0 (image_memory (fields_for l.words) l.words (drop 53 l.bytes)))
+
+abbrev pub decreases-loop-from : goal.decreases-loop-from
+decreases-loop-from l = l.words - l.from

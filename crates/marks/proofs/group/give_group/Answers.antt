@@ -1,0 +1,8 @@
+use mathlib.Core.Path.{◌∙◌}
+use borrow.Author.Rules.{rules}
+use Rattle.marks.specs.Marks.{with_group}
+use Rattle.marks.proofs.group.give_group.Goals as goal
+
+pub returns : goal.returns
+unfolding with_group
+returns c = c.store-2.ensures ∙ rw (c.store.ensures, c.clear.ensures, c.load-next.ensures)

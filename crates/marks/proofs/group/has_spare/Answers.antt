@@ -1,0 +1,5 @@
+use borrow.Author.Rules.{rules}
+use Rattle.marks.proofs.group.has_spare.Goals as goal
+
+pub returns : goal.returns
+returns c = rw c.load-last.ensures
