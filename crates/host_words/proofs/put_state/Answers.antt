@@ -28,7 +28,7 @@ returns-then-state-eq-STATE_SIZE c =
     let first = c.copy_words.ensures ∙ c.machine_words.ensures in
     let second = c.copy_words-then-state-eq-STATE_SIZE.ensures ∙ c.latch_words.ensures in
     laid-over _ _ lent c.if-state-eq-STATE_SIZE.true _
-    (parts-copied 12 lent c.copy_words.new.1.0 c.copy_words-then-state-eq-STATE_SIZE.new.1.0 (ap length first ∙ machine-words-long _)
+    (parts-copied 12 lent c.copy_words.new.to c.copy_words-then-state-eq-STATE_SIZE.new.to (ap length first ∙ machine-words-long _)
     ∙ ap₂ (λ (a b : List ℕ). a ++ b) first second)
 
 pub returns-else-state-eq-STATE_SIZE : goal.returns-else-state-eq-STATE_SIZE

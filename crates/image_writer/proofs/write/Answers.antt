@@ -1,3 +1,5 @@
+use Rattle.std.proofs.Common.{ℕ, List}
+use Rattle.model.specs.declared.Machine.{Machine}
 use Prim.Native.Nat.{◌+◌}
 use mathlib.Core.Path.{◌≡◌, sym, ◌∙◌}
 use native.Mathlib.Omega.{arith}
@@ -11,8 +13,9 @@ use Rattle.image.proofs.Loaded.{version-small}
 use Rattle.image_writer.proofs.Answers.{write_refused, write_no_room, write_no_version, write_carried}
 use Rattle.image_writer.proofs.write.Goals as goal
 
-image-length : (c : tie.Start) → length (image_of c.args.version c.args.machine c.args.memory.now) ≡ 56 + span_of (length c.args.memory.now)
-image-length c = let eight : length c.args.machine.regs ≡ 8 = search rules in omega (arith, size c.args.version c.args.machine c.args.memory.now eight)
+image_length : (version : ℕ) (machine : Machine) (memory : List ℕ) → length machine.regs ≡ 8
+    → length (image_of version machine memory) ≡ 56 + span_of (length memory)
+image_length version machine memory eight = omega (arith, size version machine memory eight)
 
 pub image_size-size-requires : goal.image_size-size-requires
 image_size-size-requires c = (memory-bounds c.args.memory.now (sym c.memory_fits.ensures ∙ c.in-Accepted.is)).1
@@ -21,16 +24,16 @@ pub returns-then-out-size : goal.returns-then-out-size
 returns-then-out-size c =
     let a = c.args in
     write_no_room a.memory.now a.machine a.version a.out.now (sym c.in-Accepted.is ∙ c.memory_fits.ensures)
-    (omega (arith, c.if-out-size.true, c.image_size-size.ensures, image-length c))
+    (omega (arith, c.if-out-size.true, c.image_size-size.ensures, image_length c.args.version c.args.machine c.args.memory.now (search rules)))
 
 pub returns-then-not-is_version : goal.returns-then-not-is_version
 returns-then-not-is_version c =
     let a = c.args in
     write_no_version a.memory.now a.machine a.version a.out.now (sym c.in-Accepted.is ∙ c.memory_fits.ensures)
-    (omega (arith, c.if-out-size.false, c.image_size-size.ensures, image-length c)) (sym c.is_version.ensures ∙ not-true _ c.if-not-is_version.true)
+    (omega (arith, c.if-out-size.false, c.image_size-size.ensures, image_length c.args.version c.args.machine c.args.memory.now (search rules))) (sym c.is_version.ensures ∙ c.if-not-is_version.true)
 
 pub overflow_cast-version : goal.overflow_cast-version
-overflow_cast-version c = omega (arith, version-small c.args.version (sym c.is_version.ensures ∙ not-false _ c.if-not-is_version.false))
+overflow_cast-version c = omega (arith, version-small c.args.version (sym c.is_version.ensures ∙ c.if-not-is_version.false))
 
 pub put_image-requires : goal.put_image-requires
 put_image-requires c =
@@ -47,5 +50,5 @@ returns-else-not-is_version c =
     let a = c.args in
     let n = c.image_size-size.ensures in
     write_carried a.memory.now a.machine a.version a.out.now (sym c.in-Accepted.is ∙ c.memory_fits.ensures) _ _
-    (omega (arith, c.if-out-size.false, n, image-length c))
-    (sym c.is_version.ensures ∙ not-false _ c.if-not-is_version.false) c.put_image.ensures (n ∙ sym (image-length c))
+    (omega (arith, c.if-out-size.false, n, image_length c.args.version c.args.machine c.args.memory.now (search rules)))
+    (sym c.is_version.ensures ∙ c.if-not-is_version.false) c.put_image.ensures (n ∙ sym (image_length c.args.version c.args.machine c.args.memory.now (search rules)))

@@ -61,7 +61,7 @@ loop-from-preserved c =
     let p = memory-step left l.at count bytes (omega arith) e ∙ ap (λ (n : ℕ). words_in count (drop (l.at + 3) bytes) ++ image_memory (fields_for n) n (drop (l.at + 3 + 4 * count) bytes)) q in
     let lw : length (words_in count (drop (l.at + 3) bytes)) ≡ count = length-words count (drop (l.at + 3) bytes) in (
       omega arith,
-      w.auto.1.1.0 ∙ l.invariant.1,
+      w.auto.out ∙ l.invariant.1,
       span_turn l.at a.words l.from count test e ∙ l.invariant.2,
       store_step l.memory _ l.from (l.from + count) (words_in count (drop (l.at + 3) bytes)) _ _ w.ensures (omega arith)
           (ap (sets l.memory l.from) (sym p) ∙ l.invariant.3),

@@ -10,4 +10,4 @@ pub returns : goal.returns
 returns c =
     let a = c.args in
     let h = c.put_header in
-    field_put (count_field a.words) a.out.now h.new.0 _ a.at 4 (bytes_of 4 a.words) h.ensures c.put_word.ensures (sym (length-bytes 4 a.words))
+    field_put (count_field a.words) a.out.now h.new.out _ a.at 4 (bytes_of 4 a.words) h.ensures c.put_word.ensures (sym (length-bytes 4 a.words))

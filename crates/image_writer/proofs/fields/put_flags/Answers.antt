@@ -9,4 +9,4 @@ pub returns : goal.returns
 returns c =
     let a = c.args in
     let h = c.put_header in
-    field_put flags_field a.out.now h.new.0 _ a.at 4 (flag_numbers a.flags) h.ensures c.put_four.ensures refl
+    field_put flags_field a.out.now h.new.out _ a.at 4 (flag_numbers a.flags) h.ensures c.put_four.ensures refl

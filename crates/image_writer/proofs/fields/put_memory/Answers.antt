@@ -51,7 +51,7 @@ loop-from-preserved c =
     let e : count ≡ min words_per_field (length memory - l.from) = c.words_in_field-count.ensures in
     let lf = length-word-field memory l.from count (omega arith) in (
       omega arith,
-      w.auto.0 ∙ l.invariant.1,
+      w.auto.out ∙ l.invariant.1,
       omega (arith, span_turn l.at (length memory) l.from count test e, l.invariant.2),
       store_step l.out _ l.at _ (field_bytes (words_field count) (word_bytes (take count (drop l.from memory)))) _ _ w.ensures (omega arith)
           (ap (sets l.out l.at) (sym (next_field memory l.from count test e)) ∙ l.invariant.3),

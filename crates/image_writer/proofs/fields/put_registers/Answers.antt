@@ -6,4 +6,4 @@ pub returns : goal.returns
 returns c =
     let a = c.args in
     let h = c.put_header in
-    registers-put a.out.now h.new.0 _ a.at a.t3 (search rules) h.ensures c.put_words.ensures
+    registers-put a.out.now h.new.out _ a.at a.regs (search rules) h.ensures c.put_words.ensures

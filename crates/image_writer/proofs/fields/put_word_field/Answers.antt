@@ -17,5 +17,5 @@ returns c =
     let h = c.put_header in
     let words : List ℕ = take a.count (drop a.from a.memory.now) in
     let l : length words ≡ a.count = length_part a.memory.now a.from a.count (omega arith) in
-    field_put (words_field a.count) a.out.now h.new.0 _ a.at (4 * a.count) (word_bytes words) h.ensures c.put_words.ensures
+    field_put (words_field a.count) a.out.now h.new.out _ a.at (4 * a.count) (word_bytes words) h.ensures c.put_words.ensures
     (ap (λ (n : ℕ). 4 * n) (sym l) ∙ sym (length-word-bytes words))
