@@ -1,0 +1,17 @@
+use borrow.Author.Tests.{not-true, not-false}
+use borrow.Author.Rules.{rules}
+use Rattle.model.specs.Board.{board_with}
+use Rattle.gate_machine.proofs.Turns.{waits-on, works-on}
+use Rattle.gate_machine.proofs.machine.tick.Goals as goal
+
+pub returns-then-not-grant : goal.returns-then-not-grant
+returns-then-not-grant c =
+    let args = c.args in
+    waits-on (board_with args.bottom args.waits.now) args.s args.regs.now args.memory.now args.step c.requires.0
+    c.granted-grant.ensures (not-true _ c.if-not-grant.true)
+
+pub returns : goal.returns
+returns c =
+    let args = c.args in
+    works-on (board_with args.bottom args.waits.now) args.s args.regs.now args.memory.now args.step c.requires.0
+    c.granted-grant.ensures (not-false _ c.if-not-grant.false) c.work-u.ensures

@@ -1,0 +1,7 @@
+use Prim.Native.Nat.{◌*◌}
+use native.Mathlib.Omega.{arith}
+use borrow.Author.Rules.{rules}
+use Rattle.journal.proofs.put_back.Goals as goal
+
+pub overflow_cast-journal : goal.overflow_cast-journal
+overflow_cast-journal c = omega (arith, c.type_inv.journal (2 * c.args.k))
