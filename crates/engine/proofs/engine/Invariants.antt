@@ -1,0 +1,17 @@
+use Prim.Native.Nat.{◌-◌, ◌^◌, ◌<◌}
+use mathlib.Core.Path.{sym, ◌∙◌}
+use native.Mathlib.Omega.{arith}
+use borrow.Author.Tests.{not-true, not-false}
+use borrow.Author.Rules.{rules}
+use Rattle.model.specs.Waits.{wait_at}
+use Rattle.model.specs.Board.{board_with}
+use Rattle.model.specs.Packed.{packed_machine}
+use Rattle.engine.proofs.Spending.{begin-fits}
+use Rattle.engine.proofs.Turns.{At, begins, same_start, from_start, clocks-fit, turn, stopped, full, finished}
+use Rattle.engine.proofs.engine.Given as goal
+
+abbrev pub invariant-loop-i : goal.invariant-loop-i
+invariant-loop-i l = At l.initial.memory (board_with l.bottom l.waits) l.initial.position l.initial.journal l.initial.map l.noted (packed_machine l.initial.regs l.initial.flags) l.count l.memory l.journal l.map l.regs l.flags l.position l.clocks l.pairs l.i
+
+abbrev pub decreases-loop-i : goal.decreases-loop-i
+decreases-loop-i l = l.count - l.i
