@@ -1,0 +1,5 @@
+use borrow.Author.Rules.{rules}
+use Rattle.lent_clock.proofs.clock.Goals as goal
+
+pub returns : goal.returns
+returns c = c.run.ensures
