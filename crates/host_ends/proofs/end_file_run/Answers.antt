@@ -1,0 +1,17 @@
+use mathlib.Core.Path.{refl, ap}
+use borrow.Author.Rules.{rules}
+use Rattle.host_calls.specs.Codes.{file_code}
+use Rattle.host_ends.proofs.Ends.{ends-refused, not-finished, file-stopped, file-finished}
+use Rattle.host_ends.proofs.end_file_run.Goals as goal
+
+pub returns-in-Refused : goal.returns-in-Refused
+returns-in-Refused c = ends-refused _ _ _ _ _ _ _ _ not-finished c.in-Refused.why (ap file_code c.in-Refused.is) _ c.refusal_number.ensures
+
+pub returns-in-Undone : goal.returns-in-Undone
+returns-in-Undone c = file-stopped _ _ _ _ _ refl refl c.in-Undone.is c.put_two.ensures
+
+pub returns-in-Full : goal.returns-in-Full
+returns-in-Full c = file-stopped _ _ _ _ _ refl refl c.in-Full.is c.put_two-in-Full.ensures
+
+pub returns-in-Finished : goal.returns-in-Finished
+returns-in-Finished c = file-finished _ _ _ _ _ c.in-Finished.is c.put_machine.ensures c.put_two-in-Finished.ensures
