@@ -1,0 +1,9 @@
+use borrow.Author.Rules.{rules}
+use Rattle.host.proofs.Answers.{gate-misfit, gate-formed}
+use Rattle.host.proofs.fm8502_gate_run.Goals as goal
+
+pub returns-then-not-lent : goal.returns-then-not-lent
+returns-then-not-lent c = gate-misfit _ _ _ _ _ _ _ _ c.state_lent-lent.ensures c.if-not-lent.true
+
+pub returns : goal.returns
+returns c = gate-formed _ _ _ _ _ _ _ _ c.state_lent-lent.ensures c.if-not-lent.false _ _ c.run-r.ensures _ _ _ c.end_gate_run.ensures
