@@ -1,6 +1,6 @@
 #!/usr/bin/env bash
 # The proved arithmetic unit with each adder, on all pairs of 8 bits and on random ones of 16 and 32, against the reference emulator's adders.
-# Both programs are built already: rt check crosscheck, and tests/generate.sh builds the generator.
+# Both programs are built already: tests/build.sh crosscheck, and tests/generate.sh builds the generator.
 set -euo pipefail
 cd "$(dirname "$0")/.."
 

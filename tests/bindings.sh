@@ -1,7 +1,7 @@
 #!/usr/bin/env bash
 # Builds and runs the C, Rust and Python examples; each must print what the reference emulator computed. The reasons to refuse a call have
 # the same numbers and read alike in all three. The Python module's own checks run too.
-# The static library comes first: rt staticlib host.
+# The static library comes first: tests/build.sh host.
 set -euo pipefail
 cd "$(dirname "$0")/.."
 . tests/tools.sh

@@ -1,6 +1,6 @@
 #!/usr/bin/env bash
 # The ledger program on whole inputs, against the reference emulator's ledger and the paper's words.
-# Both are built already: rt check ledger, and tests/generate.sh builds the reference's programs.
+# Both are built already: tests/build.sh ledger, and tests/generate.sh builds the reference's programs.
 set -euo pipefail
 cd "$(dirname "$0")/.."
 

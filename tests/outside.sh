@@ -6,11 +6,11 @@ set -euo pipefail
 cd "$(dirname "$0")/.."
 . tests/tools.sh
 
-# The static library is built on one core while the other tests the reference.
+# The programs and the static library are built on one core while the other tests the reference.
 log=$(mktemp)
-rt staticlib host >"$log" 2>&1 &
-library=$!
-trap 'kill "$library" 2>/dev/null || true; rm -f "$log"' EXIT
+bash tests/build.sh crosscheck ledger host >"$log" 2>&1 &
+built=$!
+trap 'kill "$built" 2>/dev/null || true; rm -f "$log"' EXIT
 
 echo "outside: the crates in reading order"
 bash tests/layers.sh
@@ -21,14 +21,14 @@ cargo test --quiet --release --offline --manifest-path reference/Cargo.toml
 echo "outside: generated files are those of their seeds and sources"
 bash tests/generate.sh --check
 
+echo "outside: the programs and the static library"
+wait "$built" || { cat "$log" >&2; exit 1; }
+
 echo "outside: both adders against the reference emulator's"
 bash tests/adders.sh
 
 echo "outside: the ledger program"
 bash tests/ledger.sh
-
-echo "outside: the static library"
-wait "$library" || { cat "$log" >&2; exit 1; }
 
 echo "outside: the proved calls against the reference emulator"
 cargo build --quiet --release --offline --manifest-path harness/Cargo.toml --features library --bin differential

@@ -1,5 +1,5 @@
 #!/usr/bin/env bash
-# Makes target/python/libfm8502.so, which fm8502.py loads, out of the static library: rt staticlib host comes first.
+# Makes target/python/libfm8502.so, which fm8502.py loads, out of the static library: tests/build.sh host comes first.
 # FM8502_LIB_DIR: the folder of libhost.a, if another than target/staticlib.
 set -euo pipefail
 cd "$(dirname "$0")/../.."

@@ -1,4 +1,4 @@
-//! Links the proved emulator's archive, which `rt staticlib host` writes.
+//! Links the proved emulator's archive, which `tests/build.sh host` writes.
 
 use std::env;
 use std::path::PathBuf;
@@ -11,7 +11,7 @@ fn main() {
     let archive = folder.join("libhost.a");
     if !archive.exists() {
         println!(
-            "cargo:warning={} is missing: run `rt staticlib host` first",
+            "cargo:warning={} is missing: run `bash tests/build.sh host` first",
             archive.display()
         );
     }

@@ -2,9 +2,11 @@
 use image::WriteAnswer;
 use image_writer::write;
 use ledger_text::{LONGEST_TEXT, ReportAnswer, report};
-use libc::STDOUT_FILENO;
 use model::{Flags, Machine};
 use text::put_text;
+
+// The standard output.
+const STDOUT_FILENO: i32 = 1;
 
 // The first three registers; the others and the flags are 0.
 pub fn machine(r0: u32, r1: u32, r2: u32) -> Machine {

@@ -1,7 +1,8 @@
 // The input, read a word at a time; past its end every word is 0.
 ghost use Rattle.std.specs.Prelude.{◌≡◌, ◌≤◌, min};
 
-use libc::STDIN_FILENO;
+// The standard input.
+const STDIN_FILENO: i32 = 0;
 
 // The longest memory and wait list of a case.
 const MOST_LIST: usize = 64;

@@ -1,8 +1,10 @@
 // The output's parts. Each item of a line has a space before it.
 use super::input::least;
-use libc::STDOUT_FILENO;
 use model::Flags;
 use text::{put_flag_digits, put_hexadecimal};
+
+// The standard output.
+const STDOUT_FILENO: i32 = 1;
 
 pub fn print(text: &[u8]) {
     io::write_all(STDOUT_FILENO, text);

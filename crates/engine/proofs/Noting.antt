@@ -1,9 +1,9 @@
 -- The run as the code keeps it is the definition's: without a journal the interpreter's run, with one the run with a journal of distinct addresses,
 -- as long as the map tells the journal's pairs.
-use Prim.Native.Nat.{ℕ, zero, suc, ◌+◌, ◌*◌, ◌/◌, ◌≤◌, ◌<◌}
+use Prim.Native.Nat.{ℕ, zero, suc, ◌+◌, ◌/◌, ◌≤◌, ◌<◌}
 use mathlib.Core.Path.{◌≡◌, refl, sym, ap, subst, subst₂, ◌∙◌}
-use mathlib.Core.Bool.{Bool, true, false, not, cond, ◌&&◌, ◌||◌, true≢false}
-use mathlib.Core.List.{List, [], ◌∷◌, ◌++◌}
+use mathlib.Core.Bool.{Bool, true, false, cond, ◌&&◌, true≢false}
+use mathlib.Core.List.{List, [], ◌∷◌}
 use native.Mathlib.Omega.{arith}
 use lib.Dec.{eqb, leb}
 use lib.ListN.{length, length-append, length-set}
@@ -13,10 +13,10 @@ use Rattle.model.specs.Words.{word_at, store_word, alterable}
 use Rattle.model.specs.Operands.{in_memory}
 use Rattle.model.specs.Board.{Board}
 use Rattle.model.specs.Interpreter as I
-use Rattle.model.specs.Journal.{Pair, stored_by, has_pair, room_in, noting, Noted, within, run_one, run_noted, fresh, journal_words, noted}
+use Rattle.model.specs.Journal.{Pair, stored_by, has_pair, room_in, noting, Noted, within, run_one, run_noted, fresh, journal_words}
 use Rattle.model.proofs.Runs.{one_more, has_words, noted-words}
 use Rattle.model.proofs.Journals.{full-stays}
-use Rattle.marks.specs.Marks.{known, Tells}
+use Rattle.marks.specs.Marks.{Tells}
 use Rattle.marks.proofs.Telling.{known-told, one-noted}
 use Rattle.step.specs.Keeping.{passed_by, no_room}
 use Rattle.engine.specs.Keeping.{Kept, kept_at, kept_after, keep_one, keep_run}

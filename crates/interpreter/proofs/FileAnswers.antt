@@ -1,19 +1,17 @@
 -- The file run: refused, carried out, taken back.
-use Prim.Native.Nat.{ℕ, ◌*◌, ◌≤◌, min}
-use mathlib.Core.Path.{◌≡◌, refl, sym, ap, ap₂, subst, ◌∙◌}
+use Prim.Native.Nat.{ℕ, ◌≤◌, min}
+use mathlib.Core.Path.{◌≡◌, refl, sym, ap, ap₂, ◌∙◌}
 use mathlib.Core.Bool.{Bool, true, false, not, cond, ◌&&◌}
 use mathlib.Core.List.{List, []}
 use native.Mathlib.Omega.{arith}
 use lib.ListN.{length, replicate}
-use lib.Seq.{sets}
 use Rattle.model.specs.declared.Machine.{Machine}
-use Rattle.model.specs.declared.Ending.{Ending}
 use Rattle.model.specs.declared.Refusal.{Refusal}
 use Rattle.model.specs.declared.Verdict.{Verdict}
 use Rattle.model.specs.declared.Verdict.TheVariants.{Accepted, Refused}
 use Rattle.model.specs.Words.{overlay}
 use Rattle.model.specs.Interpreter.{goes_on, Run, begin}
-use Rattle.model.specs.Journal.{Pair, room_in, Noted, fresh, run_noted, completes, journal_words}
+use Rattle.model.specs.Journal.{room_in, Noted, fresh, completes, journal_words}
 use Rattle.model.specs.Refusals.{verdict_number, left_by, memory_fits, bottom_fits, file_verdict}
 use Rattle.model.proofs.Waits.{first_fits}
 use Rattle.model.proofs.Verdicts.{both, memory-bounds}
@@ -21,7 +19,7 @@ use Rattle.marks.proofs.Telling.{none_told}
 use Rattle.engine.specs.declared.Ended.{Ended}
 use Rattle.engine.specs.Clocks.{begins_at}
 use Rattle.engine.specs.Keeping.{Kept, kept_at, keep_run}
-use Rattle.engine.specs.Engine.{ended_of, EngineEnds}
+use Rattle.engine.specs.Engine.{EngineEnds}
 use Rattle.engine.proofs.Spending.{begins-there}
 use Rattle.engine.proofs.Noting.{Follows, follows-run}
 use Rattle.journal.specs.Undo.{undone, restored}
@@ -29,7 +27,7 @@ use Rattle.journal.proofs.Restoring.{run-restores}
 use Rattle.journal.proofs.Taking.{laid-over, taken}
 use Rattle.interpreter.specs.declared.FileAnswer.{FileAnswer}
 use Rattle.interpreter.specs.declared.FileResult.{FileResult}
-use Rattle.interpreter.specs.Calls.{file_answer_of, file_answer, file_result, memory_end, file_number, file_board, whole_file, file_returned, file_words, file_places, FileRuns}
+use Rattle.interpreter.specs.Calls.{file_answer_of, file_result, memory_end, file_number, file_board, whole_file, file_returned, file_words, file_places, FileRuns}
 use Rattle.interpreter.specs.Ends.{ended, FileEnds}
 
 -- ---- the end, by whether it finished

@@ -2,7 +2,11 @@
 #![tactic(auto)]
 
 use ledger_text::{LONGEST_TEXT, MOST_INPUT, ReportAnswer, report_input};
-use libc::{STDIN_FILENO, STDOUT_FILENO};
+
+// The standard input and the standard output.
+const STDIN_FILENO: i32 = 0;
+
+const STDOUT_FILENO: i32 = 1;
 
 fn main() {
     let mut input = [0u8; MOST_INPUT];

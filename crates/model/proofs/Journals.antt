@@ -1,14 +1,14 @@
 -- Laws on a run with a journal of distinct addresses: where it is full, where it is not, and its pairs.
 use Prim.Native.Nat.{ℕ, zero, suc, ◌+◌, ◌≤◌, ◌<◌}
-use mathlib.Core.Path.{◌≡◌, refl, sym, ap, ap₂, ◌∙◌}
-use mathlib.Core.Bool.{Bool, true, false, not, cond, ◌&&◌, ◌||◌, true≢false}
+use mathlib.Core.Path.{◌≡◌, refl, sym, ap, ◌∙◌}
+use mathlib.Core.Bool.{Bool, true, false, cond, true≢false}
 use mathlib.Core.List.{List, [], ◌∷◌, ◌++◌}
 use native.Mathlib.Omega.{arith}
-use lib.Dec.{eqb, leb}
+use lib.Dec.{leb}
 use lib.ListN.{length, length-append}
-use borrow.Author.Tests.{leb-true, leb-false, le-leb, lt-leb}
+use borrow.Author.Tests.{leb-true, leb-false, le-leb}
 use Rattle.model.specs.Board.{Board}
-use Rattle.model.specs.Interpreter.{goes_on, Run, advance, interpret}
+use Rattle.model.specs.Interpreter.{Run, advance, interpret}
 use Rattle.model.specs.Journal.{Pair, stored_by, has_pair, noting, Noted, within, run_one, run_noted, fresh, journal_pairs}
 use Rattle.model.proofs.Cases.{pick}
 use Rattle.model.proofs.Runs.{pairs-le}

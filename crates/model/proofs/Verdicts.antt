@@ -1,6 +1,6 @@
 -- Verdicts one after the other; a call that is carried out: nothing that is demanded fails. The numbers of the refusals.
-use Prim.Native.Nat.{ℕ, ◌*◌, ◌≤◌, ◌<◌}
-use mathlib.Core.Path.{◌≡◌, refl, sym, ◌∙◌}
+use Prim.Native.Nat.{ℕ, ◌≤◌, ◌<◌}
+use mathlib.Core.Path.{◌≡◌, refl}
 use mathlib.Core.Bool.{Bool, true, false}
 use mathlib.Core.List.{List, []}
 use native.Mathlib.Omega.{arith}
@@ -13,7 +13,7 @@ use Rattle.model.specs.declared.Verdict.{Verdict}
 use Rattle.model.specs.declared.Verdict.TheVariants.{Accepted, Refused}
 use Rattle.model.specs.Waits.{position_fits}
 use Rattle.model.specs.Board.{board_with}
-use Rattle.model.specs.Refusals.{refusal_number, verdict_number, most_words, demand, ◌then◌, memory_fits, bottom_fits, run_verdict, file_verdict}
+use Rattle.model.specs.Refusals.{refusal_number, verdict_number, most_words, demand, ◌then◌, memory_fits, run_verdict}
 
 pub then_assoc : (u v w : Verdict) → ((u then v) then w) ≡ (u then (v then w))
 then_assoc Accepted v w = refl

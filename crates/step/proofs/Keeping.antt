@@ -7,7 +7,7 @@ use lib.Dec.{eqb}
 use lib.ListN.{length}
 use Rattle.model.specs.Words.{store_word}
 use Rattle.marks.specs.declared.Noting.{Noting}
-use Rattle.marks.specs.Marks.{has_mark, known, with_mark, noting_at, Notes}
+use Rattle.marks.specs.Marks.{has_mark, known, noting_at, Notes}
 use Rattle.marks.proofs.Marking.{known-marked}
 use Rattle.step.specs.Keeping.{no_room, Keeps}
 

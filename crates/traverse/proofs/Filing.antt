@@ -1,19 +1,17 @@
 -- One file: its end, and the whole of it, from its words laid and from its run.
-use Prim.Native.Nat.{ℕ, ◌≤◌, min}
+use Prim.Native.Nat.{ℕ, min}
 use mathlib.Core.Path.{◌≡◌, refl, sym, ap, ap₂, ◌∙◌}
 use mathlib.Core.Bool.{Bool, true, false, not, cond, ◌&&◌}
 use mathlib.Core.List.{List, []}
-use native.Mathlib.Omega.{arith}
-use lib.ListN.{length, set}
 use Rattle.model.specs.declared.Machine.{Machine}
-use Rattle.model.specs.Interpreter.{machine_with, goes_on, begin}
+use Rattle.model.specs.Interpreter.{goes_on, begin}
 use Rattle.model.specs.Journal.{room_in}
 use Rattle.model.proofs.Waits.{first_fits}
 use Rattle.marks.specs.declared.Noting.{Noting}
 use Rattle.engine.specs.declared.Ended.{Ended}
 use Rattle.engine.specs.Clocks.{begins_at}
 use Rattle.engine.specs.Keeping.{Kept, kept_at, keep_run}
-use Rattle.engine.specs.Engine.{ended_of, EngineEnds}
+use Rattle.engine.specs.Engine.{EngineEnds}
 use Rattle.engine.proofs.Spending.{begins-there}
 use Rattle.engine.proofs.Noting.{full-run}
 use Rattle.journal.specs.Undo.{undone}
@@ -22,7 +20,7 @@ use Rattle.traverses.specs.declared.File.{File}
 use Rattle.traverses.specs.Files.{Part}
 use Rattle.traverses.specs.Traverse.{entered}
 use Rattle.traverse.specs.declared.file.FileEnd.{FileEnd}
-use Rattle.traverse.specs.Steps.{laid_at, lay_kept, Lays, file_kept, kept_done, end_of, kept_words, Ends, FileEnds}
+use Rattle.traverse.specs.Steps.{laid_at, lay_kept, Lays, file_kept, end_of, kept_words, Ends, FileEnds}
 
 -- ---- the end of a run
 

@@ -10,13 +10,13 @@ use lib.Seq.{sets}
 use Rattle.model.specs.declared.Machine.{Machine}
 use Rattle.model.specs.Words.{word_at, store_word}
 use Rattle.model.specs.Interpreter.{goes_on, Run, begin}
-use Rattle.model.specs.Journal.{Pair, has_pair, room_in, Noted, within, fresh, completes, journal_words}
+use Rattle.model.specs.Journal.{Pair, has_pair, room_in, Noted, fresh, completes, journal_words}
 use Rattle.model.proofs.Stores.{overlaid}
 use Rattle.model.proofs.Runs.{words-length}
 use Rattle.model.proofs.Journals.{full-within}
 use Rattle.marks.specs.Marks.{forgotten, Tells}
 use Rattle.marks.proofs.Telling.{forgotten-told}
-use Rattle.engine.specs.Keeping.{Kept, kept_at, kept_after}
+use Rattle.engine.specs.Keeping.{Kept, kept_at}
 use Rattle.engine.proofs.Noting.{Follows, by-pair, follows-run}
 use Rattle.journal.specs.Undo.{undone, restored}
 use Rattle.journal.proofs.Taking.{taken}

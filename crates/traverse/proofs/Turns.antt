@@ -1,19 +1,19 @@
 -- The loop over the files: where it stands after i of them, one more, and what it then is.
 use Prim.Native.Nat.{ℕ, ◌+◌, ◌/◌, ◌^◌, ◌≤◌, ◌<◌}
 use mathlib.Core.Path.{◌≡◌, refl, sym, ap, ap₂, subst, ◌∙◌}
-use mathlib.Core.Bool.{Bool, true, false, not, cond, ◌&&◌, and-eq-true_iff, true≢false}
+use mathlib.Core.Bool.{Bool, true, false, not, cond, ◌&&◌, and-eq-true_iff}
 use mathlib.Core.List.{List, [], ◌∷◌}
 use native.Mathlib.Nat.{zero-add}
 use native.Mathlib.Omega.{arith}
 use lib.Dec.{eqb}
 use lib.ListN.{length, drop, replicate, length-take, length-replicate}
 use lib.Pow.{pow_pos}
-use lib.Seq.{sets, length-sets, drop-drop}
+use lib.Seq.{drop-drop}
 use borrow.Author.Tests.{leb-true, eqb-true, not-false}
 use Rattle.model.specs.declared.Machine.{Machine}
 use Rattle.model.specs.Words.{overlay}
 use Rattle.model.specs.Interpreter.{Run}
-use Rattle.model.specs.Journal.{Pair, room_in, Noted, completes, journal_words}
+use Rattle.model.specs.Journal.{room_in, Noted, completes, journal_words}
 use Rattle.marks.specs.Marks.{Tells}
 use Rattle.marks.proofs.Telling.{none_told}
 use Rattle.engine.specs.Keeping.{Kept}

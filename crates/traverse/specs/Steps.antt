@@ -8,7 +8,7 @@ use Rattle.model.specs.Journal.{room_in}
 use Rattle.marks.specs.declared.Noting.{Noting}
 use Rattle.marks.specs.Marks.{forgotten, Notes}
 use Rattle.engine.specs.declared.Ended.{Ended}
-use Rattle.engine.specs.Keeping.{Kept, kept_at, kept_after, keep_run}
+use Rattle.engine.specs.Keeping.{Kept, kept_after, keep_run}
 use Rattle.journal.specs.Undo.{undone}
 use Rattle.interpreter.specs.Calls.{file_board}
 use Rattle.traverses.specs.declared.File.{File}

@@ -5,7 +5,7 @@
 use Rattle.std.specs.Prelude.{ℕ, ◌+◌, ◌*◌, ◌≤◌, ◌<◌, ◌≡◌, Bool, true, false, not, cond, ◌&&◌, List, [], ◌∷◌, ◌++◌, eqb, leb, length, get_or, take}
 use Rattle.model.specs.declared.Machine.{Machine}
 use Rattle.model.specs.Words.{bit, word_at}
-use Rattle.model.specs.Interpreter.{goes_on, address_b, next_runs, alters_memory, begin, interpret}
+use Rattle.model.specs.Interpreter.{goes_on, address_b, next_runs, alters_memory, begin}
 use Rattle.model.specs.Journal.{has_pair, room_in, noting, Noted, fresh, run_one, run_noted, completes}
 use Rattle.model.specs.Bottom.{never_stores_below}
 use Rattle.journal.specs.Undo.{undone, restored}

@@ -82,7 +82,7 @@ fn program(contest: &Contest, operations: u32) -> String {
         .stdin(Stdio::piped())
         .stdout(Stdio::piped())
         .spawn()
-        .unwrap_or_else(|error| panic!("{PROGRAM}: {error}; `rt check crosscheck` builds it"));
+        .unwrap_or_else(|error| panic!("{PROGRAM}: {error}; `tests/build.sh crosscheck` builds it"));
     let case = Case::Sequence(contest.adder, operations);
     let mut stdin = child.stdin.take().expect("piped");
     stdin

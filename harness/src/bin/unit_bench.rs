@@ -9,7 +9,7 @@ Usage: unit_bench [--rounds N] [--operations N]
 Checks that the proved unit, the reference emulator's, tuned Rust and C come to the
 same end after the operations, with either adder, then measures them in turns; the
 best of the rounds counts. Without numbers: 20 rounds of 1000000 operations (at most
-16777216). Run it from the repository's top folder, after `rt check crosscheck`.
+16777216). Run it from the repository's top folder, after `tests/build.sh crosscheck`.
 ";
 
 /// The program's limit.

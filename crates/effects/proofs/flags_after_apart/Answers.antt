@@ -1,5 +1,4 @@
 use mathlib.Core.Path.{◌∙◌}
-use borrow.Author.Rules.{rules}
 use Rattle.model.proofs.Packed.{unpacks}
 use Rattle.effects.proofs.flags_after_apart.Goals as goal
 

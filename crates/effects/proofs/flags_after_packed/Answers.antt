@@ -1,4 +1,3 @@
-use borrow.Author.Rules.{rules}
 use Rattle.model.proofs.Packed.{flags-set}
 use Rattle.effects.proofs.flags_after_packed.Goals as goal
 

@@ -1,5 +1,4 @@
 use mathlib.Core.Path.{refl}
-use borrow.Author.Rules.{rules}
 use Rattle.model.specs.Words.{field}
 use Rattle.model.specs.Alu.{operation}
 use Rattle.effects.proofs.operation_of.Goals as goal

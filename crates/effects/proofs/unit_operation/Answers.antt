@@ -1,4 +1,3 @@
-use borrow.Author.Rules.{rules}
 use Rattle.effects.proofs.unit_operation.Goals as goal
 
 pub returns-then-is_move : goal.returns-then-is_move

@@ -1,13 +1,7 @@
-use Prim.Native.Nat.{◌-◌, ◌^◌, ◌<◌}
-use mathlib.Core.Path.{sym, ◌∙◌}
-use native.Mathlib.Omega.{arith}
-use borrow.Author.Tests.{not-true, not-false}
-use borrow.Author.Rules.{rules}
-use Rattle.model.specs.Waits.{wait_at}
+use Prim.Native.Nat.{◌-◌}
 use Rattle.model.specs.Board.{board_with}
 use Rattle.model.specs.Packed.{packed_machine}
-use Rattle.engine.proofs.Spending.{begin-fits}
-use Rattle.engine.proofs.Turns.{At, begins, same_start, from_start, clocks-fit, turn, stopped, full, finished}
+use Rattle.engine.proofs.Turns.{At}
 use Rattle.engine.proofs.engine.Given as goal
 
 abbrev pub invariant-loop-i : goal.invariant-loop-i

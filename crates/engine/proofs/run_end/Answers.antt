@@ -1,4 +1,3 @@
-use borrow.Author.Rules.{rules}
 use Rattle.engine.proofs.run_end.Goals as goal
 
 pub returns : goal.returns

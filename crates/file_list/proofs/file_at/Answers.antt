@@ -1,4 +1,3 @@
-use borrow.Author.Rules.{rules}
 use Rattle.file_list.proofs.Lists.{there, past}
 use Rattle.file_list.proofs.file_at.Goals as goal
 

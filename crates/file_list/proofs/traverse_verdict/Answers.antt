@@ -1,4 +1,3 @@
-use borrow.Author.Rules.{rules}
 use Rattle.traverses.specs.Calls.{traverse_verdict}
 use Rattle.file_list.proofs.traverse_verdict.Goals as goal
 

@@ -1,5 +1,4 @@
 use mathlib.Core.Path.{sym, ◌∙◌}
-use borrow.Author.Rules.{rules}
 use Rattle.gate_machine.proofs.Answers.{run-carried, run-refused}
 use Rattle.gate_machine.proofs.run.Goals as goal
 

@@ -1,5 +1,4 @@
 use native.Mathlib.Omega.{arith}
-use borrow.Author.Rules.{rules}
 use Rattle.gate_network.proofs.Worth.{ripple_adds, adds-alike}
 use Rattle.gate_network.proofs.Halves.{halves_add}
 use Rattle.gates.proofs.add.Goals as goal

@@ -1,6 +1,5 @@
 use mathlib.Core.Bool.{xor}
 use native.Mathlib.Omega.{arith}
-use borrow.Author.Rules.{rules}
 use Rattle.gate_network.proofs.Network.{gate-by}
 use Rattle.gates.proofs.unit_around.Goals as goal
 

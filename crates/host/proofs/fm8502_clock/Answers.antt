@@ -1,4 +1,3 @@
-use borrow.Author.Rules.{rules}
 use Rattle.host.proofs.Answers.{gate-misfit, gate-formed, lent_runs}
 use Rattle.host.proofs.fm8502_clock.Goals as goal
 

@@ -1,4 +1,3 @@
-use borrow.Author.Rules.{rules}
 use Rattle.host.proofs.Answers.{file-misfit, file-formed}
 use Rattle.host.proofs.fm8502_file_run.Goals as goal
 

@@ -1,4 +1,3 @@
-use borrow.Author.Rules.{rules}
 use Rattle.host.proofs.Answers.{gate-misfit, gate-formed}
 use Rattle.host.proofs.fm8502_gate_run.Goals as goal
 

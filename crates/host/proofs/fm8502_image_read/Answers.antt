@@ -1,4 +1,3 @@
-use borrow.Author.Rules.{rules}
 use Rattle.host.proofs.Answers.{read-misfit, read-formed}
 use Rattle.host.proofs.fm8502_image_read.Goals as goal
 

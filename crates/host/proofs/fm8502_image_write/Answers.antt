@@ -1,4 +1,3 @@
-use borrow.Author.Rules.{rules}
 use Rattle.host.proofs.Answers.{write_misfit, write_formed}
 use Rattle.host.proofs.fm8502_image_write.Goals as goal
 

@@ -1,4 +1,3 @@
-use borrow.Author.Rules.{rules}
 use Rattle.host.proofs.Answers.{run-misfit, run-formed}
 use Rattle.host.proofs.fm8502_run.Goals as goal
 

@@ -1,4 +1,3 @@
-use borrow.Author.Rules.{rules}
 use Rattle.host.proofs.Answers.{files-misfit, traverse_misfit, traverse_formed}
 use Rattle.host.proofs.fm8502_traverse.Goals as goal
 

@@ -1,5 +1,4 @@
 use mathlib.Core.Path.{refl, ap}
-use borrow.Author.Rules.{rules}
 use Rattle.host_calls.specs.Codes.{file_code}
 use Rattle.host_ends.proofs.Ends.{ends-refused, not-finished, file-stopped, file-finished}
 use Rattle.host_ends.proofs.end_file_run.Goals as goal

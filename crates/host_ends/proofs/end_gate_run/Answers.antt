@@ -1,5 +1,4 @@
 use mathlib.Core.Path.{ap}
-use borrow.Author.Rules.{rules}
 use Rattle.gate_machine.specs.Calls.{gate_number}
 use Rattle.host_ends.proofs.Ends.{turned_down, ends-refused, gate-done}
 use Rattle.host_ends.proofs.end_gate_run.Goals as goal

@@ -1,5 +1,4 @@
 use mathlib.Core.Path.{ap}
-use borrow.Author.Rules.{rules}
 use Rattle.image.specs.Calls.{read_number}
 use Rattle.host_ends.proofs.Ends.{turned_down, ends-refused, read_done}
 use Rattle.host_ends.proofs.end_read.Goals as goal

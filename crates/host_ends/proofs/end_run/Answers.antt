@@ -1,5 +1,4 @@
 use mathlib.Core.Path.{sym, ◌∙◌}
-use borrow.Author.Rules.{rules}
 use Rattle.host_ends.proofs.Ends.{run-written, run-unwritten}
 use Rattle.host_ends.proofs.end_run.Goals as goal
 

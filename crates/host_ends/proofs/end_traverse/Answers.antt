@@ -1,5 +1,4 @@
 use mathlib.Core.Path.{refl, ap}
-use borrow.Author.Rules.{rules}
 use Rattle.host_calls.specs.Codes.{traverse_code}
 use Rattle.host_ends.proofs.Ends.{ends-refused, not-finished, traverse_stopped, traverse_done}
 use Rattle.host_ends.proofs.end_traverse.Goals as goal

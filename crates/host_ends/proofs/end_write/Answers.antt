@@ -1,4 +1,3 @@
-use borrow.Author.Rules.{rules}
 use Rattle.host_ends.proofs.Ends.{write_refused, write_done}
 use Rattle.host_ends.proofs.end_write.Goals as goal
 

@@ -1,6 +1,5 @@
 use mathlib.Core.Path.{sym, ◌∙◌}
 use mathlib.Core.Bool.{true, false}
-use borrow.Author.Rules.{rules}
 use Rattle.host_reading.specs.Layout.{machine_in, state_in}
 use Rattle.host_reading.proofs.Lengths.{lent-readable}
 use Rattle.host_reading.proofs.Starts.{state-lent-from}

@@ -1,8 +1,6 @@
 use Prim.Native.Nat.{◌-◌}
 use native.Mathlib.Omega.{arith}
-use lib.ListN.{length}
-use borrow.Author.Rules.{rules}
-use Rattle.host_words.proofs.Copies.{Copied, copied_none, copied_more, copied_all}
+use Rattle.host_words.proofs.Copies.{copied_none, copied_more, copied_all}
 use Rattle.host_words.proofs.copy_words.Goals as goal
 
 pub loop-i-init : goal.loop-i-init

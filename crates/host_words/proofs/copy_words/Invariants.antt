@@ -1,8 +1,6 @@
 use Prim.Native.Nat.{◌-◌}
-use native.Mathlib.Omega.{arith}
 use lib.ListN.{length}
-use borrow.Author.Rules.{rules}
-use Rattle.host_words.proofs.Copies.{Copied, copied_none, copied_more, copied_all}
+use Rattle.host_words.proofs.Copies.{Copied}
 use Rattle.host_words.proofs.copy_words.Given as goal
 
 abbrev pub invariant-loop-i : goal.invariant-loop-i

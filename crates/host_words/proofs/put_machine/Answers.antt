@@ -1,5 +1,4 @@
 use mathlib.Core.Path.{◌∙◌}
-use borrow.Author.Rules.{rules}
 use Rattle.host_words.proofs.Laid.{laid-over, laid-nowhere}
 use Rattle.host_words.proofs.put_machine.Goals as goal
 

@@ -4,7 +4,6 @@ use mathlib.Core.List.{List, ◌++◌}
 use native.Mathlib.Omega.{arith}
 use lib.ListN.{length}
 use lib.Seq.{length-take-le}
-use borrow.Author.Rules.{rules}
 use Rattle.model.specs.declared.Machine.{Machine}
 use Rattle.host_reading.specs.Layout.{machine_size}
 use Rattle.host_words.specs.Words.{machine_words}

@@ -1,7 +1,6 @@
 use mathlib.Core.Path.{sym, ◌∙◌}
 use native.Mathlib.Omega.{arith}
 use lib.ListN.{length}
-use borrow.Author.Rules.{rules}
 use Rattle.image_reader.proofs.Answers.{image-accepted, read-refused, read-carried}
 use Rattle.image_reader.proofs.read.Goals as goal
 

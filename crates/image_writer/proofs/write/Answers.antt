@@ -5,7 +5,6 @@ use mathlib.Core.Path.{◌≡◌, sym, ◌∙◌}
 use native.Mathlib.Omega.{arith}
 use lib.ListN.{length}
 use borrow.Author.Rules.{rules}
-use borrow.Author.Tests.{not-true, not-false}
 use Rattle.model.proofs.Verdicts.{memory-bounds}
 use Rattle.image.specs.Format.{span_of, image_of}
 use Rattle.image.proofs.Inverse.{size}

@@ -1,5 +1,4 @@
 use Rattle.interpreter.proofs.FileAnswers.{end-finished, end-undone}
-use borrow.Author.Rules.{rules}
 use Rattle.interpreter.proofs.file_end.Goals as goal
 
 pub returns-then-e-goes_on : goal.returns-then-e-goes_on

@@ -1,5 +1,4 @@
 use Rattle.interpreter.proofs.FileAnswers.{file-refused, file-carried}
-use borrow.Author.Rules.{rules}
 use Rattle.interpreter.proofs.file_run.Goals as goal
 
 pub returns-in-Refused : goal.returns-in-Refused

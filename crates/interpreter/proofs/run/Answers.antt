@@ -1,6 +1,5 @@
 use native.Mathlib.Omega.{arith}
 use Rattle.interpreter.proofs.Answers.{run-refused, run-carried, position-fits}
-use borrow.Author.Rules.{rules}
 use Rattle.interpreter.proofs.run.Goals as goal
 
 pub overflow_cast-after : goal.overflow_cast-after

@@ -1,6 +1,5 @@
 use Prim.Native.Nat.{◌*◌}
 use native.Mathlib.Omega.{arith}
-use borrow.Author.Rules.{rules}
 use Rattle.journal.proofs.put_back.Goals as goal
 
 pub overflow_cast-journal : goal.overflow_cast-journal

@@ -1,10 +1,7 @@
-use Prim.Native.Nat.{ℕ, ◌≤◌}
-use mathlib.Core.Path.{◌≡◌, refl, ap, ◌∙◌}
-use native.Mathlib.Omega.{arith}
+use Prim.Native.Nat.{◌≤◌}
+use mathlib.Core.Path.{◌≡◌}
 use lib.ListN.{length}
-use borrow.Author.Rules.{rules}
 use Rattle.journal.specs.Undo.{undone}
-use Rattle.journal.proofs.Journals.{undone-none, undone-more}
 use Rattle.journal.proofs.undo.Given as goal
 
 abbrev pub invariant-loop-k : goal.invariant-loop-k

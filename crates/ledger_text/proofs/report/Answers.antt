@@ -1,6 +1,5 @@
 use mathlib.Core.Path.{sym}
 use lib.Seq.{length-take-le}
-use borrow.Author.Rules.{rules}
 use Rattle.ledger_text.proofs.Answers.{report_no_room, within, words-fit, report_refused, report_carried}
 use Rattle.ledger_text.proofs.report.Goals as goal
 

@@ -3,7 +3,6 @@ use mathlib.Core.Path.{refl, sym}
 use native.Mathlib.Omega.{arith}
 use lib.ListN.{length}
 use lib.Seq.{length-take-le, take_all}
-use borrow.Author.Rules.{rules}
 use Rattle.ledger_text.specs.Report.{most_input}
 use Rattle.ledger_text.proofs.Answers.{input_reported}
 use Rattle.ledger_text.proofs.report_input.Goals as goal

@@ -1,4 +1,3 @@
-use borrow.Author.Rules.{rules}
 use Rattle.lent_clock.proofs.clock.Goals as goal
 
 pub returns : goal.returns

@@ -1,5 +1,4 @@
 use mathlib.Core.Path.{◌∙◌}
-use borrow.Author.Rules.{rules}
 use Rattle.marks.specs.Marks.{forgotten}
 use Rattle.marks.proofs.forget.Goals as goal
 

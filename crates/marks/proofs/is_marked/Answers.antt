@@ -1,6 +1,5 @@
 use mathlib.Core.Path.{sym, ◌∙◌}
 use borrow.Author.Tests.{ne_eqb}
-use borrow.Author.Rules.{rules}
 use Rattle.model.specs.Words.{field, bit}
 use Rattle.marks.specs.Marks.{marked}
 use Rattle.marks.proofs.is_marked.Goals as goal

@@ -1,5 +1,4 @@
 use mathlib.Core.Path.{sym, ◌∙◌}
-use borrow.Author.Rules.{rules}
 use Rattle.marks.proofs.Marking.{known-marked, notes-known}
 use Rattle.marks.proofs.note.Goals as goal
 

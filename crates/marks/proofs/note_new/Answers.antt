@@ -1,7 +1,6 @@
 use mathlib.Core.Path.{sym, ◌∙◌}
 use native.Mathlib.Omega.{arith}
 use lib.ListN.{length-set}
-use borrow.Author.Rules.{rules}
 use Rattle.marks.proofs.Marking.{notes-known, notes-full, notes-new}
 use Rattle.marks.proofs.note_new.Goals as goal
 

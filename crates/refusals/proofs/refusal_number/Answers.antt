@@ -1,4 +1,3 @@
-use borrow.Author.Rules.{rules}
 use Rattle.refusals.proofs.refusal_number.Goals as goal
 
 pub returns-in-NoWords : goal.returns-in-NoWords

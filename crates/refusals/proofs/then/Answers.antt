@@ -1,4 +1,3 @@
-use borrow.Author.Rules.{rules}
 use Rattle.refusals.proofs.then.Goals as goal
 
 pub returns-in-Refused : goal.returns-in-Refused

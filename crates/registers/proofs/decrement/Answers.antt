@@ -1,4 +1,4 @@
-use Rattle.std.proofs.Common.{set, ap, arith, rules}
+use Rattle.std.proofs.Common.{set, ap, arith}
 use Rattle.registers.proofs.decrement.Goals as goal
 
 pub returns : goal.returns

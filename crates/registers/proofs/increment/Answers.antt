@@ -1,4 +1,4 @@
-use Rattle.std.proofs.Common.{set, ap, rules}
+use Rattle.std.proofs.Common.{set, ap}
 use Rattle.registers.proofs.increment.Goals as goal
 
 pub returns : goal.returns

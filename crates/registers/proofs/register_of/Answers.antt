@@ -1,4 +1,3 @@
-use Rattle.std.proofs.Common.{rules}
 use Rattle.registers.proofs.register_of.Goals as goal
 
 pub returns-in-Direct : goal.returns-in-Direct

@@ -1,4 +1,4 @@
-use Rattle.std.proofs.Common.{arith, rules}
+use Rattle.std.proofs.Common.{arith}
 use Rattle.model.proofs.Operands.{register_small}
 use Rattle.registers.proofs.set_register.Goals as goal
 

@@ -1,4 +1,4 @@
-use Rattle.std.proofs.Common.{◌∙◌, arith, rules}
+use Rattle.std.proofs.Common.{◌∙◌, arith}
 use Rattle.registers.proofs.step_up.Goals as goal
 
 pub increment-requires : goal.increment-requires

@@ -1,4 +1,3 @@
-use borrow.Author.Rules.{rules}
 use Rattle.step.proofs.Steps.{stepped-all, step-stops}
 use Rattle.step.proofs.step.Goals as goal
 

@@ -1,6 +1,5 @@
 use mathlib.Core.Path.{sym, ◌∙◌}
 use native.Mathlib.Omega.{arith}
-use borrow.Author.Rules.{rules}
 use Rattle.text.specs.Text.{digit_count}
 use Rattle.text.proofs.Figures.{length_digits, places-le}
 use Rattle.text.proofs.put_decimal.Goals as goal

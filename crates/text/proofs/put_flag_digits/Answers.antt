@@ -1,4 +1,3 @@
-use borrow.Author.Rules.{rules}
 use Rattle.text.proofs.put_flag_digits.Goals as goal
 
 pub returns : goal.returns

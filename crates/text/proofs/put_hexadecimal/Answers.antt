@@ -1,5 +1,4 @@
 use mathlib.Core.Path.{sym}
-use borrow.Author.Rules.{rules}
 use Rattle.text.proofs.Figures.{length_digits}
 use Rattle.text.proofs.put_hexadecimal.Goals as goal
 

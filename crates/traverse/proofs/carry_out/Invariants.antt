@@ -1,10 +1,5 @@
 use Prim.Native.Nat.{◌-◌}
-use mathlib.Core.Path.{sym, ◌∙◌}
-use native.Mathlib.Omega.{arith}
-use borrow.Author.Rules.{rules}
-use Rattle.traverses.proofs.Reasons.{bounded}
-use Rattle.traverse.proofs.Turns.{At, begins, next_fits, turn}
-use Rattle.traverse.proofs.Answers.{all-run, taken}
+use Rattle.traverse.proofs.Turns.{At}
 use Rattle.traverse.proofs.carry_out.Given as goal
 
 abbrev pub invariant-loop-i : goal.invariant-loop-i

@@ -1,6 +1,5 @@
 use mathlib.Core.Path.{sym, ◌∙◌}
 use Rattle.traverse.proofs.Answers.{refused}
-use borrow.Author.Rules.{rules}
 use Rattle.traverse.proofs.traverse.Goals as goal
 
 pub carry_out-requires : goal.carry_out-requires

@@ -1,4 +1,3 @@
-use borrow.Author.Rules.{rules}
 use Rattle.verdicts.proofs.bottom_fits.Goals as goal
 
 pub returns : goal.returns

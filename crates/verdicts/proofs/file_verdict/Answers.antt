@@ -1,4 +1,3 @@
-use borrow.Author.Rules.{rules}
 use Rattle.model.specs.Refusals.{file_verdict}
 use Rattle.verdicts.proofs.file_verdict.Goals as goal
 

@@ -1,4 +1,3 @@
-use borrow.Author.Rules.{rules}
 use Rattle.model.specs.Refusals.{gate_verdict}
 use Rattle.verdicts.proofs.gate_verdict.Goals as goal
 

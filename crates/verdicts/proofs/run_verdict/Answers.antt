@@ -1,4 +1,3 @@
-use borrow.Author.Rules.{rules}
 use Rattle.model.specs.Refusals.{run_verdict}
 use Rattle.verdicts.proofs.run_verdict.Goals as goal
 

@@ -1,4 +1,3 @@
-use borrow.Author.Rules.{rules}
 use Rattle.verdicts.proofs.start_fits.Goals as goal
 
 pub returns : goal.returns

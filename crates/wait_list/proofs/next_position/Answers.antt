@@ -1,4 +1,4 @@
-use Rattle.std.proofs.Common.{◌≡◌, ℕ, refl, arith, rules}
+use Rattle.std.proofs.Common.{◌≡◌, ℕ, refl, arith}
 use Rattle.model.proofs.Waits.{next-either}
 use Rattle.wait_list.proofs.next_position.Goals as goal
 

@@ -1,4 +1,4 @@
-use Rattle.std.proofs.Common.{ℕ, refl, ◌∙◌, arith, rules}
+use Rattle.std.proofs.Common.{ℕ, refl, ◌∙◌, arith}
 use Rattle.arithmetic.proofs.Sums.{same_answer, difference_is}
 use Rattle.arithmetic.proofs.WordSums.{wrapped_difference}
 use Rattle.arithmetic.proofs.word.difference.Goals as goal

@@ -1,4 +1,4 @@
-use Rattle.std.proofs.Common.{refl, arith, rules}
+use Rattle.std.proofs.Common.{refl, arith}
 use Rattle.arithmetic.specs.Alu.{halved_of}
 use Rattle.arithmetic.proofs.Bits.{bit_le}
 use Rattle.arithmetic.proofs.Sums.{same_answer}

@@ -1,4 +1,4 @@
-use Rattle.std.proofs.Common.{ℕ, refl, ◌∙◌, arith, rules}
+use Rattle.std.proofs.Common.{ℕ, refl, ◌∙◌, arith}
 use Rattle.arithmetic.proofs.Sums.{same_answer, sum_is}
 use Rattle.arithmetic.proofs.WordSums.{wrapped_sum}
 use Rattle.arithmetic.proofs.word.sum.Goals as goal

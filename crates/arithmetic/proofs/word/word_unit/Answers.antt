@@ -1,4 +1,4 @@
-use Rattle.std.proofs.Common.{◌∙◌, rules}
+use Rattle.std.proofs.Common.{◌∙◌}
 use Rattle.arithmetic.proofs.word.word_unit.Goals as goal
 
 pub returns : goal.returns

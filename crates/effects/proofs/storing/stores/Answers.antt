@@ -2,7 +2,6 @@ use Prim.Native.Nat.{ℕ, ◌≤◌, ◌<◌}
 use mathlib.Core.Path.{◌≡◌, refl, sym, ap, ◌∙◌}
 use mathlib.Core.Bool.{not, true}
 use native.Mathlib.Omega.{arith}
-use borrow.Author.Rules.{rules}
 use Rattle.model.specs.Alu.{condition, stores, is_move, operation}
 use Rattle.model.specs.Packed.{flags_of}
 use Rattle.model.proofs.Conditions.{unconditional, operation-lt}

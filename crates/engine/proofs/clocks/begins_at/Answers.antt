@@ -1,5 +1,4 @@
 use mathlib.Core.Path.{sym, ◌∙◌}
-use borrow.Author.Rules.{rules}
 use Rattle.engine.proofs.clocks.begins_at.Goals as goal
 
 pub returns-then-position_fits : goal.returns-then-position_fits

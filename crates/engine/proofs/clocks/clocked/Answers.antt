@@ -1,4 +1,3 @@
-use borrow.Author.Rules.{rules}
 use Rattle.engine.proofs.Spending.{clocked-walks, clocked-empty}
 use Rattle.engine.proofs.clocks.clocked.Goals as goal
 

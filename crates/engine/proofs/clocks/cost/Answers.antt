@@ -1,6 +1,5 @@
 use mathlib.Core.Path.{refl}
 use native.Mathlib.Omega.{arith}
-use borrow.Author.Rules.{rules}
 use Rattle.arithmetic.proofs.Bits.{bit_le}
 use Rattle.engine.proofs.clocks.cost.Goals as goal
 

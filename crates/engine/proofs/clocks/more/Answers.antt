@@ -1,5 +1,4 @@
 use native.Mathlib.Omega.{arith}
-use borrow.Author.Rules.{rules}
 use Rattle.model.specs.Waits.{wait_at}
 use Rattle.model.proofs.Waits.{next-below}
 use Rattle.engine.proofs.clocks.more.Goals as goal

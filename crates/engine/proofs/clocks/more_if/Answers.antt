@@ -1,5 +1,4 @@
 use native.Mathlib.Omega.{arith}
-use borrow.Author.Rules.{rules}
 use Rattle.engine.proofs.clocks.more_if.Goals as goal
 
 pub returns-then-b : goal.returns-then-b

@@ -1,10 +1,8 @@
-use Prim.Native.Nat.{◌-◌, ◌≤◌, ◌<◌}
-use mathlib.Core.Path.{◌≡◌, refl, sym, ◌∙◌}
+use Prim.Native.Nat.{◌-◌, ◌<◌}
+use mathlib.Core.Path.{refl, sym, ◌∙◌}
 use native.Mathlib.Omega.{arith}
-use lib.ListN.{length, drop}
-use borrow.Author.Rules.{rules}
-use borrow.Author.Tests.{not-true, not-false}
-use Rattle.traverses.specs.Files.{files_in, all_placed}
+use lib.ListN.{length}
+use Rattle.traverses.specs.Files.{files_in}
 use Rattle.file_list.proofs.Lists.{placed-goes, placed-stops, placed-ends}
 use Rattle.file_list.proofs.sums.all_placed.Goals as goal
 

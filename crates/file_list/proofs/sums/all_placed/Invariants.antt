@@ -1,11 +1,7 @@
-use Prim.Native.Nat.{◌-◌, ◌≤◌, ◌<◌}
-use mathlib.Core.Path.{◌≡◌, refl, sym, ◌∙◌}
-use native.Mathlib.Omega.{arith}
-use lib.ListN.{length, drop}
-use borrow.Author.Rules.{rules}
-use borrow.Author.Tests.{not-true, not-false}
+use Prim.Native.Nat.{◌-◌, ◌≤◌}
+use mathlib.Core.Path.{◌≡◌}
+use lib.ListN.{drop}
 use Rattle.traverses.specs.Files.{files_in, all_placed}
-use Rattle.file_list.proofs.Lists.{placed-goes, placed-stops, placed-ends}
 use Rattle.file_list.proofs.sums.all_placed.Given as goal
 
 abbrev pub invariant-loop-i : goal.invariant-loop-i

@@ -1,9 +1,7 @@
-use Prim.Native.Nat.{◌+◌, ◌-◌, ◌*◌, ◌≤◌, ◌<◌}
-use mathlib.Core.Path.{◌≡◌}
+use Prim.Native.Nat.{◌-◌, ◌<◌}
 use native.Mathlib.Omega.{arith}
-use lib.ListN.{length, drop}
-use borrow.Author.Rules.{rules}
-use Rattle.traverses.specs.Files.{files_in, sizes}
+use lib.ListN.{length}
+use Rattle.traverses.specs.Files.{files_in}
 use Rattle.file_list.proofs.Lists.{sizes-goes, sizes-ends}
 use Rattle.file_list.proofs.sums.sizes.Goals as goal
 

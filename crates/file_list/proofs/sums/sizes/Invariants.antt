@@ -1,10 +1,7 @@
-use Prim.Native.Nat.{◌+◌, ◌-◌, ◌*◌, ◌≤◌, ◌<◌}
+use Prim.Native.Nat.{◌+◌, ◌-◌, ◌*◌, ◌≤◌}
 use mathlib.Core.Path.{◌≡◌}
-use native.Mathlib.Omega.{arith}
-use lib.ListN.{length, drop}
-use borrow.Author.Rules.{rules}
+use lib.ListN.{drop}
 use Rattle.traverses.specs.Files.{files_in, sizes}
-use Rattle.file_list.proofs.Lists.{sizes-goes, sizes-ends}
 use Rattle.file_list.proofs.sums.sizes.Given as goal
 
 abbrev pub invariant-loop-i : goal.invariant-loop-i

@@ -1,6 +1,5 @@
 use native.Mathlib.Omega.{arith}
-use borrow.Author.Tests.{not-true, not-false, lt-ltb, le-ltb}
-use borrow.Author.Rules.{rules}
+use borrow.Author.Tests.{lt-ltb, le-ltb}
 use Rattle.model.specs.GateMachine.{remaining, position_now}
 use Rattle.model.specs.Refusals.{most_waits}
 use Rattle.model.proofs.Waits.{next_low}

@@ -1,6 +1,5 @@
 use mathlib.Core.Path.{refl}
 use native.Mathlib.Omega.{arith}
-use borrow.Author.Rules.{rules}
 use Rattle.gate_machine.proofs.access.one_less.Goals as goal
 
 pub returns-then-left-gt0 : goal.returns-then-left-gt0

@@ -1,4 +1,3 @@
-use borrow.Author.Rules.{rules}
 use Rattle.gate_machine.proofs.machine.clocks_done.Goals as goal
 
 pub returns-else-stuck : goal.returns-else-stuck

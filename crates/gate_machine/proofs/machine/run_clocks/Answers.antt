@@ -1,15 +1,12 @@
-use Prim.Native.Nat.{◌+◌, ◌-◌, ◌^◌, ◌≤◌, ◌<◌}
+use Prim.Native.Nat.{◌+◌, ◌-◌, ◌^◌, ◌<◌}
 use mathlib.Core.Path.{◌≡◌, refl, ◌∙◌}
 use mathlib.Core.List.{[]}
 use native.Mathlib.Omega.{arith}
-use lib.ListN.{length}
-use borrow.Author.Rules.{rules}
 use Rattle.arithmetic.proofs.Bits.{bit_le}
 use Rattle.model.specs.declared.Verdict.TheVariants.{Accepted}
 use Rattle.model.specs.Board.{board_with}
-use Rattle.model.specs.GateMachine.{gate, gate_run}
+use Rattle.model.specs.GateMachine.{gate_run}
 use Rattle.model.specs.Refusals.{gate_verdict}
-use Rattle.model.specs.Agreement.{gate_from}
 use Rattle.model.proofs.Valid.{short, row-there}
 use Rattle.step_table.proofs.Table.{step-there}
 use Rattle.gate_rows.specs.Work.{state_of}

@@ -1,5 +1,4 @@
 use borrow.Author.Tests.{not-true, not-false}
-use borrow.Author.Rules.{rules}
 use Rattle.model.specs.Board.{board_with}
 use Rattle.gate_machine.proofs.Turns.{waits-on, works-on}
 use Rattle.gate_machine.proofs.machine.tick.Goals as goal

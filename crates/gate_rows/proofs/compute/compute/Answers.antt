@@ -1,4 +1,3 @@
-use borrow.Author.Rules.{rules}
 use Rattle.model.proofs.Packed.{unpacks}
 use Rattle.gate_rows.proofs.compute.compute.Goals as goal
 

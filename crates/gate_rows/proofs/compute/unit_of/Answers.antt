@@ -1,4 +1,3 @@
-use borrow.Author.Rules.{rules}
 use Rattle.arithmetic.specs.Alu.{answers, alu_at, alu_of}
 use Rattle.model.specs.Alu.{alu}
 use Rattle.gate_rows.proofs.compute.unit_of.Goals as goal

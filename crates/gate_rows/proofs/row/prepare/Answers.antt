@@ -1,6 +1,5 @@
 use mathlib.Core.Path.{◌≡◌, sym, ap, ◌∙◌}
 use mathlib.Core.Bool.{true, false, cond}
-use borrow.Author.Rules.{rules}
 use Rattle.model.specs.Operands.{in_memory}
 use Rattle.model.specs.GateMachine.{with_a, with_b}
 use Rattle.gate_rows.specs.Work.{state_of}

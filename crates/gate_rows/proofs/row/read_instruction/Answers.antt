@@ -1,5 +1,4 @@
 use mathlib.Core.Bool.{true, false}
-use borrow.Author.Rules.{rules}
 use Rattle.gate_rows.proofs.Rows.{reads-row}
 use Rattle.gate_rows.proofs.row.read_instruction.Goals as goal
 

@@ -1,5 +1,4 @@
 use mathlib.Core.Path.{refl, ◌∙◌}
-use borrow.Author.Rules.{rules}
 use Rattle.gate_rows.proofs.Rows.{by, by-3, by-5, past-table}
 use Rattle.gate_rows.proofs.row.work.Goals as goal
 

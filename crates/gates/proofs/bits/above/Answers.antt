@@ -3,7 +3,6 @@ use mathlib.Core.Path.{sym, ◌∙◌}
 use mathlib.Core.Bool.{false}
 use native.Mathlib.Omega.{arith}
 use lib.ListN.{get_or-eq_default}
-use borrow.Author.Rules.{rules}
 use Rattle.gate_network.specs.Gates.{bits_of}
 use Rattle.gate_network.proofs.Worth.{length-bits, bit_at}
 use Rattle.gates.proofs.bits.above.Goals as goal

@@ -1,6 +1,5 @@
 use mathlib.Core.Path.{sym}
 use mathlib.Core.Bool.{false}
-use borrow.Author.Rules.{rules}
 use Rattle.gate_network.proofs.Worth.{bit_at}
 use Rattle.gates.proofs.bits.bit.Goals as goal
 

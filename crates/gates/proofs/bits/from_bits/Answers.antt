@@ -1,9 +1,8 @@
-use Prim.Native.Nat.{ℕ, ◌≤◌}
+use Prim.Native.Nat.{ℕ}
 use mathlib.Core.Path.{◌≡◌, sym, ap, ◌∙◌}
 use native.Mathlib.Omega.{arith}
-use lib.ListN.{length, drop}
+use lib.ListN.{drop}
 use lib.Seq.{drop-length}
-use borrow.Author.Rules.{rules}
 use Rattle.gate_network.specs.Gates.{value}
 use Rattle.gate_network.proofs.Worth.{value-drop}
 use Rattle.gates.proofs.bits.from_bits.Goals as goal

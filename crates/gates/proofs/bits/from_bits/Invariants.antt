@@ -1,11 +1,7 @@
-use Prim.Native.Nat.{ℕ, ◌≤◌}
-use mathlib.Core.Path.{◌≡◌, sym, ap, ◌∙◌}
-use native.Mathlib.Omega.{arith}
+use Prim.Native.Nat.{◌≤◌}
+use mathlib.Core.Path.{◌≡◌}
 use lib.ListN.{length, drop}
-use lib.Seq.{drop-length}
-use borrow.Author.Rules.{rules}
 use Rattle.gate_network.specs.Gates.{value}
-use Rattle.gate_network.proofs.Worth.{value-drop}
 use Rattle.gates.proofs.bits.from_bits.Given as goal
 
 abbrev pub invariant-loop-i : goal.invariant-loop-i

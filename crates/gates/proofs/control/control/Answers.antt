@@ -1,5 +1,4 @@
 use mathlib.Core.Bool.{xor}
-use borrow.Author.Rules.{rules}
 use Rattle.gates.proofs.control.control.Goals as goal
 
 pub returns : goal.returns

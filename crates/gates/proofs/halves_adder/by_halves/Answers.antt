@@ -1,5 +1,4 @@
 use native.Mathlib.Omega.{arith}
-use borrow.Author.Rules.{rules}
 use Rattle.gates.proofs.Ranges.{halves_whole}
 use Rattle.gates.proofs.halves_adder.by_halves.Goals as goal
 

@@ -1,11 +1,8 @@
-use Prim.Native.Nat.{◌+◌, ◌-◌, ◌≤◌, ◌<◌}
-use mathlib.Core.Path.{◌≡◌, refl, sym, ◌∙◌}
-use mathlib.Core.Bool.{Bool, xor}
-use mathlib.Core.List.{List, ◌++◌}
-use native.Mathlib.Omega.{arith}
-use lib.ListN.{length, take, drop, length-set}
+use Prim.Native.Nat.{◌+◌, ◌-◌, ◌≤◌}
+use mathlib.Core.Path.{◌≡◌}
+use mathlib.Core.List.{◌++◌}
+use lib.ListN.{length, take, drop}
 use Rattle.gate_network.specs.Gates.{ripple_sum, ripple_carry}
-use Rattle.gates.proofs.Turns.{turn, all-stored, ripple_sum_step, ripple_carry_step, ripple_sum_end, ripple_carry_end}
 use Rattle.gates.proofs.ripple_adder.ripple.Given as goal
 
 abbrev pub invariant-loop-i : goal.invariant-loop-i

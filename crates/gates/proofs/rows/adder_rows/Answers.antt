@@ -1,11 +1,10 @@
 use Prim.Native.Nat.{ℕ, ◌-◌, ◌≤◌, ◌<◌}
-use mathlib.Core.Path.{◌≡◌, refl, ap, ◌∙◌}
+use mathlib.Core.Path.{refl, ap, ◌∙◌}
 use mathlib.Core.Bool.{Bool, xor}
-use mathlib.Core.List.{List, ◌++◌}
+use mathlib.Core.List.{List}
 use native.Mathlib.Omega.{arith}
-use lib.ListN.{length, take, drop, length-set}
-use borrow.Author.Rules.{rules}
-use Rattle.gate_network.specs.Gates.{bits_of, first_bit, second_bit, first_row, second_row}
+use lib.ListN.{length, length-set}
+use Rattle.gate_network.specs.Gates.{bits_of, first_bit, second_bit}
 use Rattle.gate_network.proofs.Worth.{length-bits}
 use Rattle.gates.proofs.Turns.{turn, all-stored, first_step, second-step, first-end, second-end}
 use Rattle.gates.proofs.rows.adder_rows.Goals as goal

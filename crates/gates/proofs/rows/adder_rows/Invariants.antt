@@ -1,13 +1,8 @@
-use Prim.Native.Nat.{ℕ, ◌-◌, ◌≤◌, ◌<◌}
-use mathlib.Core.Path.{◌≡◌, refl, ap, ◌∙◌}
-use mathlib.Core.Bool.{Bool, xor}
-use mathlib.Core.List.{List, ◌++◌}
-use native.Mathlib.Omega.{arith}
-use lib.ListN.{length, take, drop, length-set}
-use borrow.Author.Rules.{rules}
-use Rattle.gate_network.specs.Gates.{bits_of, first_bit, second_bit, first_row, second_row}
-use Rattle.gate_network.proofs.Worth.{length-bits}
-use Rattle.gates.proofs.Turns.{turn, all-stored, first_step, second-step, first-end, second-end}
+use Prim.Native.Nat.{◌-◌, ◌≤◌}
+use mathlib.Core.Path.{◌≡◌}
+use mathlib.Core.List.{◌++◌}
+use lib.ListN.{length, take, drop}
+use Rattle.gate_network.specs.Gates.{bits_of, first_row, second_row}
 use Rattle.gates.proofs.rows.adder_rows.Given as goal
 
 abbrev pub invariant-loop-i : goal.invariant-loop-i

@@ -1,4 +1,3 @@
-use borrow.Author.Rules.{rules}
 use Rattle.gates.proofs.rows.first_bit.Goals as goal
 
 pub returns : goal.returns

@@ -1,4 +1,3 @@
-use borrow.Author.Rules.{rules}
 use Rattle.host_ends.proofs.codes.run_code.Goals as goal
 
 pub returns-in-Refused : goal.returns-in-Refused

@@ -1,5 +1,4 @@
 use mathlib.Core.Path.{refl}
-use borrow.Author.Rules.{rules}
 use Rattle.host_words.proofs.Laid.{laid-nowhere}
 use Rattle.host_ends.proofs.Placed.{placed}
 use Rattle.host_ends.proofs.places.put_one.Goals as goal

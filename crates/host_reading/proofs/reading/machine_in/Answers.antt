@@ -1,5 +1,4 @@
 use mathlib.Core.Path.{refl}
-use borrow.Author.Rules.{rules}
 use Rattle.host_reading.specs.Layout.{machine_in}
 use Rattle.host_reading.proofs.reading.machine_in.Goals as goal
 

@@ -1,4 +1,3 @@
-use borrow.Author.Rules.{rules}
 use Rattle.host_reading.proofs.Starts.{state-from}
 use Rattle.host_reading.proofs.reading.state_in.Goals as goal
 

@@ -1,5 +1,4 @@
 use mathlib.Core.Path.{refl}
-use borrow.Author.Rules.{rules}
 use Rattle.model.specs.Packed.{latch_words}
 use Rattle.host_words.proofs.words.latch_words.Goals as goal
 

@@ -1,5 +1,4 @@
 use mathlib.Core.Path.{refl}
-use borrow.Author.Rules.{rules}
 use Rattle.host_words.specs.Words.{machine_words}
 use Rattle.host_words.proofs.words.machine_words.Goals as goal
 

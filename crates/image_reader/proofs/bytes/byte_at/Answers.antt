@@ -1,7 +1,6 @@
 use mathlib.Core.Path.{sym}
 use native.Mathlib.Omega.{arith}
 use lib.ListN.{get_or-eq_default}
-use borrow.Author.Rules.{rules}
 use Rattle.image_reader.proofs.bytes.byte_at.Goals as goal
 
 pub returns-else-at-bytes : goal.returns-else-at-bytes

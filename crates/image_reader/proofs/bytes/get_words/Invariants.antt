@@ -1,13 +1,8 @@
-use Prim.Native.Nat.{ℕ, ◌+◌, ◌-◌, ◌*◌, ◌≤◌}
-use mathlib.Core.Path.{◌≡◌, refl, sym, ap, ◌∙◌}
-use mathlib.Core.List.{List, [], ◌∷◌}
-use native.Mathlib.Nat.{add-zero, sub-zero}
-use native.Mathlib.Omega.{arith}
-use lib.ListN.{length, take, drop, length-set}
+use Prim.Native.Nat.{◌+◌, ◌-◌, ◌*◌, ◌≤◌}
+use mathlib.Core.Path.{◌≡◌}
+use lib.ListN.{length, drop}
 use lib.Seq.{sets}
-use Rattle.model.proofs.Stores.{store_step, store-end}
-use Rattle.image.specs.Bytes.{number_in, words_in}
-use Rattle.image.proofs.Places.{word_after}
+use Rattle.image.specs.Bytes.{words_in}
 use Rattle.image_reader.proofs.bytes.get_words.Given as goal
 
 abbrev pub invariant-loop-i : goal.invariant-loop-i

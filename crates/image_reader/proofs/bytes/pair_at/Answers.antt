@@ -1,5 +1,4 @@
 use native.Mathlib.Omega.{arith}
-use borrow.Author.Rules.{rules}
 use Rattle.image.proofs.Places.{two_bytes}
 use Rattle.image_reader.proofs.bytes.pair_at.Goals as goal
 

@@ -1,5 +1,4 @@
 use native.Mathlib.Omega.{arith}
-use borrow.Author.Rules.{rules}
 use Rattle.image.proofs.Places.{four_bytes}
 use Rattle.image_reader.proofs.bytes.word_in.Goals as goal
 

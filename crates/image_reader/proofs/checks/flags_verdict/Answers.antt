@@ -4,7 +4,6 @@ use mathlib.Core.Bool.{◌&&◌}
 use mathlib.Core.List.{List}
 use lib.Dec.{leb}
 use lib.ListN.{drop}
-use borrow.Author.Rules.{rules}
 use Rattle.image.specs.Format.{flags_field}
 use Rattle.image.proofs.Headers.{with_rule}
 use Rattle.image_reader.proofs.Head.{flag_at, flags-checked}

@@ -1,4 +1,3 @@
-use borrow.Author.Rules.{rules}
 use Rattle.image_reader.proofs.Head.{head_of}
 use Rattle.image_reader.proofs.checks.head_verdict.Goals as goal
 

@@ -1,6 +1,5 @@
 use mathlib.Core.Path.{sym, ◌∙◌}
 use native.Mathlib.Omega.{arith}
-use borrow.Author.Rules.{rules}
 use Rattle.image.proofs.Headers.{cut-header, wrong_tag, wrong_length, cut-value, whole-field}
 use Rattle.image_reader.proofs.checks.header_verdict.Goals as goal
 

@@ -1,6 +1,5 @@
 use mathlib.Core.Path.{sym, ◌∙◌}
 use native.Mathlib.Omega.{arith}
-use borrow.Author.Rules.{rules}
 use Rattle.image_reader.proofs.Answers.{head_accepted, refused-head, accepted-head}
 use Rattle.image_reader.proofs.checks.image_verdict.Goals as goal
 

@@ -1,5 +1,4 @@
 use mathlib.Core.Path.{sym, ◌∙◌}
-use borrow.Author.Rules.{rules}
 use Rattle.image.proofs.Places.{one_byte}
 use Rattle.image_reader.proofs.checks.image_version.Goals as goal
 

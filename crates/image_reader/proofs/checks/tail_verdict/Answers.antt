@@ -1,10 +1,8 @@
-use Prim.Native.Nat.{◌+◌, ◌≤◌, ◌<◌}
+use Prim.Native.Nat.{◌<◌}
 use mathlib.Core.Path.{◌≡◌, refl, sym, ◌∙◌}
 use native.Mathlib.Omega.{arith}
-use borrow.Author.Rules.{rules}
-use Rattle.image.specs.Format.{fields_for, span_of}
+use Rattle.image.specs.Format.{fields_for}
 use Rattle.image.proofs.Memories.{span_step}
-use Rattle.image_reader.specs.Passes.{tail_verdict}
 use Rattle.image_reader.proofs.Turns.{tail_refused, tail_goes, tail_end}
 use Rattle.image_reader.proofs.checks.tail_verdict.Goals as goal
 

@@ -1,11 +1,7 @@
-use Prim.Native.Nat.{◌+◌, ◌≤◌, ◌<◌}
-use mathlib.Core.Path.{◌≡◌, refl, sym, ◌∙◌}
-use native.Mathlib.Omega.{arith}
-use borrow.Author.Rules.{rules}
-use Rattle.image.specs.Format.{fields_for, span_of}
-use Rattle.image.proofs.Memories.{span_step}
+use Prim.Native.Nat.{◌+◌, ◌≤◌}
+use mathlib.Core.Path.{◌≡◌}
+use Rattle.image.specs.Format.{span_of}
 use Rattle.image_reader.specs.Passes.{tail_verdict}
-use Rattle.image_reader.proofs.Turns.{tail_refused, tail_goes, tail_end}
 use Rattle.image_reader.proofs.checks.tail_verdict.Given as goal
 
 abbrev pub invariant-loop-left : goal.invariant-loop-left

@@ -1,5 +1,4 @@
 use mathlib.Core.Path.{◌∙◌}
-use borrow.Author.Rules.{rules}
 use Rattle.image.specs.Format.{version_field}
 use Rattle.image.proofs.Headers.{with_rule}
 use Rattle.image_reader.proofs.Head.{version-checked}

@@ -1,5 +1,4 @@
 use native.Mathlib.Omega.{arith}
-use borrow.Author.Rules.{rules}
 use Rattle.image.proofs.Places.{two-pairs}
 use Rattle.image_reader.proofs.checks.word_count.Goals as goal
 

@@ -1,14 +1,13 @@
-use Prim.Native.Nat.{ℕ, ◌+◌, ◌-◌, ◌*◌, ◌≤◌, min}
+use Prim.Native.Nat.{ℕ, ◌+◌, ◌-◌, ◌*◌, min}
 use mathlib.Core.Path.{◌≡◌, refl, sym, ap, ◌∙◌}
 use mathlib.Core.List.{List, ◌++◌}
 use native.Mathlib.Nat.{sub-zero}
 use native.Mathlib.Omega.{arith}
 use lib.ListN.{length, drop}
 use lib.Seq.{sets}
-use borrow.Author.Rules.{rules}
 use Rattle.model.proofs.Stores.{store_step, store-end}
 use Rattle.image.specs.Bytes.{words_in}
-use Rattle.image.specs.Format.{words_per_field, fields_for, span_of}
+use Rattle.image.specs.Format.{words_per_field, fields_for}
 use Rattle.image.proofs.Bytes.{length-words}
 use Rattle.image.proofs.Memories.{span_turn}
 use Rattle.image_reader.specs.Passes.{image_memory}

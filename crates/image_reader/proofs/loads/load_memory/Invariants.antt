@@ -1,18 +1,9 @@
-use Prim.Native.Nat.{ℕ, ◌+◌, ◌-◌, ◌*◌, ◌≤◌, min}
-use mathlib.Core.Path.{◌≡◌, refl, sym, ap, ◌∙◌}
-use mathlib.Core.List.{List, ◌++◌}
-use native.Mathlib.Nat.{sub-zero}
-use native.Mathlib.Omega.{arith}
+use Prim.Native.Nat.{◌+◌, ◌-◌, ◌≤◌}
+use mathlib.Core.Path.{◌≡◌}
 use lib.ListN.{length, drop}
 use lib.Seq.{sets}
-use borrow.Author.Rules.{rules}
-use Rattle.model.proofs.Stores.{store_step, store-end}
-use Rattle.image.specs.Bytes.{words_in}
-use Rattle.image.specs.Format.{words_per_field, fields_for, span_of}
-use Rattle.image.proofs.Bytes.{length-words}
-use Rattle.image.proofs.Memories.{span_turn}
+use Rattle.image.specs.Format.{fields_for, span_of}
 use Rattle.image_reader.specs.Passes.{image_memory}
-use Rattle.image_reader.proofs.Turns.{memory-step}
 use Rattle.image_reader.proofs.loads.load_memory.Given as goal
 
 abbrev pub invariant-loop-from : goal.invariant-loop-from

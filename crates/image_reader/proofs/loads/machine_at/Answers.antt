@@ -3,7 +3,6 @@ use mathlib.Core.Path.{◌≡◌}
 use mathlib.Core.List.{List}
 use lib.Dec.{eqb}
 use lib.ListN.{drop}
-use borrow.Author.Rules.{rules}
 use Rattle.image.specs.Bytes.{words_in}
 use Rattle.image_reader.proofs.Head.{flag_at}
 use Rattle.image_reader.proofs.loads.machine_at.Goals as goal

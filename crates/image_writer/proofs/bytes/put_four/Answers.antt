@@ -1,7 +1,6 @@
 use native.Mathlib.Numerals.{add-one, add-two, add-three}
 use native.Mathlib.Omega.{arith}
 use lib.ListN.{length-set}
-use borrow.Author.Rules.{rules}
 use Rattle.image_writer.proofs.bytes.put_four.Goals as goal
 
 pub bounds-out-at-2 : goal.bounds-out-at-2

@@ -1,7 +1,6 @@
 use native.Mathlib.Numerals.{add-one, add-two}
 use native.Mathlib.Omega.{arith}
 use lib.ListN.{length-set}
-use borrow.Author.Rules.{rules}
 use Rattle.image.specs.Bytes.{bytes_of}
 use Rattle.image_writer.proofs.bytes.put_header.Goals as goal
 

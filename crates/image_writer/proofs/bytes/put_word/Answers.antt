@@ -1,4 +1,3 @@
-use borrow.Author.Rules.{rules}
 use Rattle.image.specs.Bytes.{bytes_of}
 use Rattle.image_writer.proofs.bytes.put_word.Goals as goal
 

@@ -1,12 +1,8 @@
-use Prim.Native.Nat.{ℕ, ◌+◌, ◌-◌, ◌*◌, ◌≤◌}
-use mathlib.Core.Path.{◌≡◌, refl, sym, ap, ◌∙◌}
-use native.Mathlib.Nat.{add-zero, sub-zero}
-use native.Mathlib.Omega.{arith}
-use lib.ListN.{length, take, drop, get_or}
+use Prim.Native.Nat.{◌+◌, ◌-◌, ◌*◌, ◌≤◌}
+use mathlib.Core.Path.{◌≡◌}
+use lib.ListN.{length, take, drop}
 use lib.Seq.{sets}
-use Rattle.model.proofs.Stores.{store_step, store-end}
-use Rattle.image.specs.Bytes.{bytes_of, word_bytes}
-use Rattle.image.proofs.Bytes.{length-bytes, next_word}
+use Rattle.image.specs.Bytes.{word_bytes}
 use Rattle.image_writer.proofs.bytes.put_words.Given as goal
 
 -- what is still to be stored

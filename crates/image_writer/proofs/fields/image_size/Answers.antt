@@ -1,5 +1,4 @@
 use native.Mathlib.Omega.{arith}
-use borrow.Author.Rules.{rules}
 use Rattle.image.specs.Format.{fields_for}
 use Rattle.image_writer.proofs.fields.image_size.Goals as goal
 

@@ -1,5 +1,4 @@
 use mathlib.Core.Path.{sym}
-use borrow.Author.Rules.{rules}
 use Rattle.image.specs.Bytes.{bytes_of}
 use Rattle.image.specs.Format.{count_field}
 use Rattle.image.proofs.Bytes.{length-bytes}

@@ -1,5 +1,4 @@
 use mathlib.Core.Path.{refl}
-use borrow.Author.Rules.{rules}
 use Rattle.model.specs.Packed.{flag_numbers}
 use Rattle.image.specs.Format.{flags_field}
 use Rattle.image_writer.proofs.Puts.{field_put}

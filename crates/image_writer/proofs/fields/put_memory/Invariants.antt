@@ -1,15 +1,8 @@
-use Prim.Native.Nat.{ℕ, ◌+◌, ◌-◌, ◌≤◌, min}
-use mathlib.Core.Path.{◌≡◌, refl, sym, ap, ◌∙◌}
-use mathlib.Core.List.{List}
-use native.Mathlib.Nat.{sub-zero}
-use native.Mathlib.Omega.{arith}
-use lib.ListN.{length, take, drop}
+use Prim.Native.Nat.{◌+◌, ◌-◌, ◌≤◌}
+use mathlib.Core.Path.{◌≡◌}
+use lib.ListN.{length, drop}
 use lib.Seq.{sets}
-use borrow.Author.Rules.{rules}
-use Rattle.model.proofs.Stores.{store_step, store-end}
-use Rattle.image.specs.Bytes.{word_bytes}
-use Rattle.image.specs.Format.{field_bytes, words_field, words_per_field, fields_for, span_of, memory_fields}
-use Rattle.image.proofs.Memories.{span_turn, next_field, length-word-field}
+use Rattle.image.specs.Format.{fields_for, span_of, memory_fields}
 use Rattle.image_writer.proofs.fields.put_memory.Given as goal
 
 -- what is still to be stored, and that it fits

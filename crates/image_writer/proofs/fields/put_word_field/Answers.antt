@@ -3,7 +3,6 @@ use mathlib.Core.Path.{◌≡◌, sym, ap, ◌∙◌}
 use mathlib.Core.List.{List}
 use native.Mathlib.Omega.{arith}
 use lib.ListN.{length, take, drop}
-use borrow.Author.Rules.{rules}
 use Rattle.image.specs.Bytes.{word_bytes}
 use Rattle.image.specs.Format.{words_field}
 use Rattle.image.proofs.Bytes.{length-word-bytes}

@@ -1,4 +1,3 @@
-use borrow.Author.Rules.{rules}
 use Rattle.ledger_lines.specs.Lines.{ending_text}
 use Rattle.ledger_text.proofs.Parts.{◌⊳◌}
 use Rattle.ledger_text.proofs.lines.put_ending.Goals as goal

@@ -1,5 +1,4 @@
 use native.Mathlib.Omega.{arith}
-use borrow.Author.Rules.{rules}
 use Rattle.ledger_text.proofs.Parts.{put, extends_by}
 use Rattle.ledger_text.proofs.lines.put_ending_word.Goals as goal
 

@@ -1,5 +1,4 @@
 use native.Mathlib.Omega.{arith}
-use borrow.Author.Rules.{rules}
 use Rattle.ledger_lines.specs.Lines.{heading}
 use Rattle.ledger_text.proofs.Parts.{extends_by, start}
 use Rattle.ledger_text.proofs.lines.put_heading.Goals as goal

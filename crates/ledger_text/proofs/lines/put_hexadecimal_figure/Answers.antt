@@ -1,7 +1,6 @@
 use Prim.Native.Nat.{◌≤◌}
 use native.Mathlib.Omega.{arith}
 use lib.ListN.{length}
-use borrow.Author.Rules.{rules}
 use Rattle.text.specs.Text.{hexadecimal}
 use Rattle.text.proofs.Figures.{length_digits}
 use Rattle.ledger_text.proofs.Parts.{figure_put}

@@ -1,4 +1,3 @@
-use borrow.Author.Rules.{rules}
 use Rattle.ledger_lines.specs.Lines.{line}
 use Rattle.ledger_text.proofs.Parts.{put, ◌⊳◌}
 use Rattle.ledger_text.proofs.lines.put_line.Goals as goal

@@ -1,4 +1,3 @@
-use borrow.Author.Rules.{rules}
 use Rattle.ledger_lines.specs.Lines.{refused_text}
 use Rattle.ledger_text.proofs.Parts.{start, ◌⊳◌}
 use Rattle.ledger_text.proofs.lines.put_refused.Goals as goal

@@ -1,9 +1,7 @@
 use Prim.Native.Nat.{◌+◌, ◌-◌, ◌^◌, ◌≤◌, ◌<◌}
 use mathlib.Core.Path.{◌∙◌}
 use native.Mathlib.Omega.{arith}
-use borrow.Author.Rules.{rules}
-use Rattle.ledger_lines.specs.Lines.{most_lines}
-use Rattle.ledger_text.proofs.Turns.{At, begins, at_small, total_fits, turn, stopped, finished}
+use Rattle.ledger_text.proofs.Turns.{begins, at_small, total_fits, turn, stopped, finished}
 use Rattle.ledger_text.proofs.running.put_run.Goals as goal
 
 pub loop-ran-init : goal.loop-ran-init

@@ -1,9 +1,6 @@
-use Prim.Native.Nat.{◌+◌, ◌-◌, ◌^◌, ◌≤◌, ◌<◌}
-use mathlib.Core.Path.{◌∙◌}
-use native.Mathlib.Omega.{arith}
-use borrow.Author.Rules.{rules}
+use Prim.Native.Nat.{◌-◌}
 use Rattle.ledger_lines.specs.Lines.{most_lines}
-use Rattle.ledger_text.proofs.Turns.{At, begins, at_small, total_fits, turn, stopped, finished}
+use Rattle.ledger_text.proofs.Turns.{At}
 use Rattle.ledger_text.proofs.running.put_run.Given as goal
 
 abbrev pub invariant-loop-ran : goal.invariant-loop-ran

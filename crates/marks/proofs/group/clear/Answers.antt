@@ -1,9 +1,6 @@
-use Prim.Native.Nat.{◌+◌, ◌-◌, ◌≤◌}
-use mathlib.Core.Path.{◌≡◌, refl, ◌∙◌}
+use Prim.Native.Nat.{◌-◌}
+use mathlib.Core.Path.{refl, ◌∙◌}
 use native.Mathlib.Omega.{arith}
-use lib.ListN.{length, replicate}
-use lib.Seq.{sets}
-use borrow.Author.Rules.{rules}
 use Rattle.marks.proofs.Marking.{clears_first, clears_on, clears_last}
 use Rattle.marks.proofs.group.clear.Goals as goal
 

@@ -1,10 +1,7 @@
 use Prim.Native.Nat.{◌+◌, ◌-◌, ◌≤◌}
-use mathlib.Core.Path.{◌≡◌, refl, ◌∙◌}
-use native.Mathlib.Omega.{arith}
+use mathlib.Core.Path.{◌≡◌}
 use lib.ListN.{length, replicate}
 use lib.Seq.{sets}
-use borrow.Author.Rules.{rules}
-use Rattle.marks.proofs.Marking.{clears_first, clears_on, clears_last}
 use Rattle.marks.proofs.group.clear.Given as goal
 
 abbrev pub invariant-loop-k : goal.invariant-loop-k

@@ -1,5 +1,4 @@
 use mathlib.Core.Path.{◌∙◌}
-use borrow.Author.Rules.{rules}
 use Rattle.marks.specs.Marks.{with_group}
 use Rattle.marks.proofs.group.give_group.Goals as goal
 

@@ -1,4 +1,3 @@
-use borrow.Author.Rules.{rules}
 use Rattle.marks.proofs.group.has_spare.Goals as goal
 
 pub returns : goal.returns

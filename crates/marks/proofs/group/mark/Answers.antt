@@ -1,6 +1,5 @@
 use mathlib.Core.Path.{sym, ◌∙◌}
 use borrow.Author.Tests.{eq-eqb, ne_eqb}
-use borrow.Author.Rules.{rules}
 use Rattle.marks.proofs.Marking.{spare-given, mark_paged, mark_given, mark_none}
 use Rattle.marks.proofs.group.mark.Goals as goal
 

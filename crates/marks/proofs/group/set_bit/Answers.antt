@@ -1,5 +1,4 @@
 use mathlib.Core.Path.{◌∙◌}
-use borrow.Author.Rules.{rules}
 use Rattle.marks.specs.Marks.{with_bit}
 use Rattle.marks.proofs.Marking.{shifted}
 use Rattle.marks.proofs.group.set_bit.Goals as goal

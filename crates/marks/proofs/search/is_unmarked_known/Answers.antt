@@ -1,6 +1,5 @@
 use mathlib.Core.Path.{sym, ◌∙◌}
 use borrow.Author.Tests.{eq-eqb, ne_eqb}
-use borrow.Author.Rules.{rules}
 use Rattle.marks.proofs.Marking.{known-paged, known-spare, known-searched}
 use Rattle.marks.proofs.search.is_unmarked_known.Goals as goal
 

@@ -1,4 +1,3 @@
-use Rattle.std.proofs.Common.{rules}
 use Rattle.model.proofs.Operands.{absent-word}
 use Rattle.operands.proofs.memory.load.Goals as goal
 

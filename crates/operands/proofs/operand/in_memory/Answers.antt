@@ -1,4 +1,3 @@
-use Rattle.std.proofs.Common.{rules}
 use Rattle.operands.proofs.operand.in_memory.Goals as goal
 
 pub returns-in-Direct : goal.returns-in-Direct

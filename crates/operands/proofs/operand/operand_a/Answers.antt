@@ -1,4 +1,3 @@
-use Rattle.std.proofs.Common.{rules}
 use Rattle.model.specs.Words.{field}
 use Rattle.model.specs.Operands.{operand_a}
 use Rattle.operands.proofs.operand.operand_a.Goals as goal

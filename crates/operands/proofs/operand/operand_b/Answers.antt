@@ -1,4 +1,3 @@
-use Rattle.std.proofs.Common.{rules}
 use Rattle.model.specs.Words.{field}
 use Rattle.model.specs.Operands.{operand_b}
 use Rattle.operands.proofs.operand.operand_b.Goals as goal

@@ -1,6 +1,5 @@
 use mathlib.Core.Path.{refl}
 use native.Mathlib.Omega.{arith}
-use borrow.Author.Rules.{rules}
 use Rattle.arithmetic.proofs.Bits.{bit_le}
 use Rattle.model.specs.Packed.{packed_of}
 use Rattle.model.proofs.Packed.{flags-le}

@@ -1,4 +1,3 @@
-use borrow.Author.Rules.{rules}
 use Rattle.packed_flags.proofs.flags.unpacked.Goals as goal
 
 pub returns : goal.returns

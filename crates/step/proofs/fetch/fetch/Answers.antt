@@ -1,5 +1,4 @@
 use borrow.Author.Tests.{not-true, not-false}
-use borrow.Author.Rules.{rules}
 use Rattle.step.proofs.Steps.{pc-gone, word_none, a-gone, b-gone, b_there}
 use Rattle.step.proofs.fetch.fetch.Goals as goal
 

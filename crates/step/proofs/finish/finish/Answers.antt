@@ -1,4 +1,3 @@
-use borrow.Author.Rules.{rules}
 use Rattle.step.proofs.finish.finish.Goals as goal
 
 pub returns-then-full : goal.returns-then-full

@@ -1,6 +1,5 @@
 use mathlib.Core.Path.{refl, sym, ◌∙◌}
 use mathlib.Core.Bool.{true≢false}
-use borrow.Author.Rules.{rules}
 use Rattle.step.proofs.Keeping.{keeps-none, keeps-marked, keeps-noted}
 use Rattle.step.proofs.keep.keep.Goals as goal
 

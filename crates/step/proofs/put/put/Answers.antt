@@ -1,6 +1,4 @@
 use mathlib.Core.Path.{sym, ◌∙◌}
-use borrow.Author.Tests.{not-true, not-false}
-use borrow.Author.Rules.{rules}
 use Rattle.step.proofs.Steps.{puts_none, puts_memory, puts_register}
 use Rattle.step.proofs.put.put.Goals as goal
 

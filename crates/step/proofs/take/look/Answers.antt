@@ -1,5 +1,4 @@
 use mathlib.Core.Path.{◌≡◌, sym, ap, ◌∙◌}
-use borrow.Author.Rules.{rules}
 use Rattle.model.specs.Operands.{in_memory}
 use Rattle.step.proofs.Operands.{taken_memory, taken-direct}
 use Rattle.step.proofs.take.look.Goals.{in-Direct, in-Indirect, in-Before, in-After}

@@ -1,4 +1,3 @@
-use borrow.Author.Rules.{rules}
 use Rattle.step.proofs.Steps.{takes-there, takes_back}
 use Rattle.step.proofs.take.take.Goals as goal
 

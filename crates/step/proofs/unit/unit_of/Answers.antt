@@ -1,5 +1,4 @@
 use mathlib.Core.Path.{◌∙◌}
-use borrow.Author.Rules.{rules}
 use Rattle.model.specs.Alu.{alu}
 use Rattle.step.proofs.unit.unit_of.Goals as goal
 

@@ -1,8 +1,6 @@
-use Prim.Native.Nat.{ℕ, ◌+◌, ◌-◌, ◌≤◌}
-use mathlib.Core.Path.{◌≡◌, ap, ◌∙◌}
-use native.Mathlib.Omega.{arith}
+use Prim.Native.Nat.{◌+◌, ◌-◌, ◌≤◌}
+use mathlib.Core.Path.{◌≡◌}
 use Rattle.text.specs.Text.{digit_count}
-use Rattle.text.proofs.Figures.{places-one, places-turn}
 use Rattle.text.proofs.digits.count_digits.Given as goal
 
 abbrev pub invariant-loop-rest : goal.invariant-loop-rest

@@ -1,10 +1,6 @@
-use Prim.Native.Nat.{◌≤◌}
 use mathlib.Core.Path.{◌≡◌, refl, sym, ◌∙◌}
 use native.Mathlib.Nat.{mod-lt}
 use native.Mathlib.Omega.{arith}
-use lib.ListN.{length}
-use lib.Seq.{sets}
-use borrow.Author.Rules.{rules}
 use Rattle.model.proofs.Stores.{sets-out}
 use Rattle.text.specs.Text.{digits}
 use Rattle.text.proofs.Figures.{digits-turn}

@@ -1,13 +1,8 @@
 use Prim.Native.Nat.{◌≤◌}
-use mathlib.Core.Path.{◌≡◌, refl, sym, ◌∙◌}
-use native.Mathlib.Nat.{mod-lt}
-use native.Mathlib.Omega.{arith}
+use mathlib.Core.Path.{◌≡◌}
 use lib.ListN.{length}
 use lib.Seq.{sets}
-use borrow.Author.Rules.{rules}
-use Rattle.model.proofs.Stores.{sets-out}
 use Rattle.text.specs.Text.{digits}
-use Rattle.text.proofs.Figures.{digits-turn}
 use Rattle.text.proofs.digits.put_digits.Given as goal
 
 abbrev pub invariant-loop-left : goal.invariant-loop-left

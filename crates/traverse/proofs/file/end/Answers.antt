@@ -1,5 +1,4 @@
 use Rattle.traverse.proofs.Filing.{end-finished, end-undone}
-use borrow.Author.Rules.{rules}
 use Rattle.traverse.proofs.file.end.Goals as goal
 
 pub returns-then-e-goes_on : goal.returns-then-e-goes_on

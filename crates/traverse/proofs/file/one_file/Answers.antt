@@ -1,6 +1,5 @@
 use mathlib.Core.Path.{◌∙◌}
 use Rattle.traverse.proofs.Filing.{file-full, file-ran}
-use borrow.Author.Rules.{rules}
 use Rattle.traverse.proofs.file.one_file.Goals as goal
 
 pub returns-then-n : goal.returns-then-n

@@ -1,9 +1,7 @@
 use Prim.Native.Nat.{◌-◌}
 use mathlib.Core.Path.{◌∙◌}
 use native.Mathlib.Omega.{arith}
-use lib.ListN.{length}
-use borrow.Author.Rules.{rules}
-use Rattle.traverse.proofs.Laying.{At, begins, turn, stops, ends}
+use Rattle.traverse.proofs.Laying.{begins, turn, stops, ends}
 use Rattle.traverse.proofs.lay.lay.Goals as goal
 
 pub loop-j-init : goal.loop-j-init

@@ -1,9 +1,6 @@
 use Prim.Native.Nat.{◌-◌}
-use mathlib.Core.Path.{◌∙◌}
-use native.Mathlib.Omega.{arith}
 use lib.ListN.{length}
-use borrow.Author.Rules.{rules}
-use Rattle.traverse.proofs.Laying.{At, begins, turn, stops, ends}
+use Rattle.traverse.proofs.Laying.{At}
 use Rattle.traverse.proofs.lay.lay.Given as goal
 
 abbrev pub invariant-loop-j : goal.invariant-loop-j

@@ -1,5 +1,4 @@
 use Rattle.traverse.proofs.Laying.{lays_none, lays_word}
-use borrow.Author.Rules.{rules}
 use Rattle.traverse.proofs.lay.lay_one.Goals as goal
 
 pub returns-then-full : goal.returns-then-full

@@ -1,5 +1,4 @@
 use native.Mathlib.Omega.{arith}
-use borrow.Author.Rules.{rules}
 use Rattle.traverse.proofs.Masks.{bit_shifted, mask_fits}
 use Rattle.traverse.proofs.walk.marked.Goals as goal
 

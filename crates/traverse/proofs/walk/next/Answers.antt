@@ -1,8 +1,4 @@
-use mathlib.Core.Path.{ap}
-use native.Mathlib.Omega.{arith}
-use Rattle.traverses.specs.declared.File.{File}
 use Rattle.traverse.proofs.Walking.{file-fits, goes}
-use borrow.Author.Rules.{rules}
 use Rattle.traverse.proofs.walk.next.Goals as goal
 
 pub one_file-e-requires : goal.one_file-e-requires

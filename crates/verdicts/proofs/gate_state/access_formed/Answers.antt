@@ -1,4 +1,3 @@
-use borrow.Author.Rules.{rules}
 use Rattle.verdicts.proofs.gate_state.access_formed.Goals as goal
 
 pub returns-then-s : goal.returns-then-s

@@ -1,6 +1,5 @@
 use mathlib.Core.Path.{refl, ap, ◌∙◌}
 use native.Mathlib.Omega.{arith}
-use borrow.Author.Rules.{rules}
 use Rattle.model.proofs.Clocks.{access-past}
 use Rattle.step_table.specs.Table.{marks_access}
 use Rattle.step_table.proofs.Table.{step-there, access-mark}

@@ -1,8 +1,6 @@
-use Prim.Native.Nat.{◌-◌, ◌≤◌}
-use mathlib.Core.Path.{◌≡◌, refl, ◌∙◌}
+use Prim.Native.Nat.{◌-◌}
+use mathlib.Core.Path.{refl, ◌∙◌}
 use native.Mathlib.Omega.{arith}
-use lib.ListN.{length, drop}
-use Rattle.model.specs.Resets.{rises}
 use Rattle.verdicts.proofs.Ascents.{rises-on, falls, rises-last}
 use Rattle.verdicts.proofs.rising.rise.Goals as goal
 

@@ -1,9 +1,7 @@
 use Prim.Native.Nat.{◌-◌, ◌≤◌}
-use mathlib.Core.Path.{◌≡◌, refl, ◌∙◌}
-use native.Mathlib.Omega.{arith}
+use mathlib.Core.Path.{◌≡◌}
 use lib.ListN.{length, drop}
 use Rattle.model.specs.Resets.{rises}
-use Rattle.verdicts.proofs.Ascents.{rises-on, falls, rises-last}
 use Rattle.verdicts.proofs.rising.rise.Given as goal
 
 abbrev pub invariant-loop-next : goal.invariant-loop-next
