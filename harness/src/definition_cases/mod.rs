@@ -19,20 +19,20 @@ const RUNS: usize = 300;
 const HEAD: &str = "-- Cases of both engines, of document 01, \"Machine and instruction word\", \"Clocks\", \"File run and journal\" and \"Why a call is turned
 -- down\", and of document 02, CR 3, CR 5, CR 6, CR 7 and CR 11, made by harness/definition_cases from a seed with the reference emulator's
 -- results: do not edit.
-use mathlib.Core.List.{List, [], _∷_}
-use Rattle·definition_cases·specs.specs.Shape.{RunCase, GateCase, VerdictCase, StartCase, runCase, gateCase, verdictCase, startCase}
+use Rattle.std.specs.Prelude.{List, [], ◌∷◌}
+use Rattle.definition_cases.specs.Shape.{RunCase, GateCase, VerdictCase, StartCase, run_case, gate_case, verdict_case, start_case}
 ";
 
 /// The whole file.
 pub fn text() -> String {
     let mut rng = Rng::new(SEED);
     let mut out = String::from(HEAD);
-    list(&mut out, "runCases", "RunCase", &runs(&mut rng));
-    list(&mut out, "gateCases", "GateCase", &gates::cases(&mut rng));
+    list(&mut out, "run_cases", "RunCase", &runs(&mut rng));
+    list(&mut out, "gate_cases", "GateCase", &gates::cases(&mut rng));
     let verdicts = verdicts::of_gate_runs(&mut rng);
-    list(&mut out, "verdictCases", "VerdictCase", &verdicts);
+    list(&mut out, "verdict_cases", "VerdictCase", &verdicts);
     let starts = verdicts::of_runs(&mut rng);
-    list(&mut out, "startCases", "StartCase", &starts);
+    list(&mut out, "start_cases", "StartCase", &starts);
     out
 }
 

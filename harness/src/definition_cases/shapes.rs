@@ -17,7 +17,7 @@ pub fn run_case(p: &Program, room: usize) -> String {
         p.count,
     );
     format!(
-        "runCase {} {} {} {} {} {} {} {} {} {} {} {} {} {} {} {} {}",
+        "run_case {} {} {} {} {} {} {} {} {} {} {} {} {} {} {} {} {}",
         numbers(&p.memory),
         numbers(&p.start.registers),
         flag_number(p.start.flags),
@@ -53,7 +53,7 @@ pub fn gate_case(p: &Program, resets: &[u64], state: &GateState, clocks: u64) ->
     let g = gate_run(&mut memory, p.bottom, &p.waits, resets, *state, clocks);
     assert_eq!(g.answer, Ok(()), "a good case");
     format!(
-        "gateCase {} {} {} {} {} {} {} {} {} {} {}",
+        "gate_case {} {} {} {} {} {} {} {} {} {} {}",
         numbers(&p.memory),
         p.bottom,
         numbers(&p.waits),
@@ -78,7 +78,7 @@ pub fn verdict_case(
 ) -> String {
     let answer = gate_run(&mut memory.to_vec(), bottom, waits, resets, *state, 0).answer;
     format!(
-        "verdictCase {} {} {} {} {} {}",
+        "verdict_case {} {} {} {} {} {}",
         numbers(memory),
         bottom,
         numbers(waits),
@@ -96,7 +96,7 @@ pub fn start_case(memory: &[u32], bottom: u32, waits: &[u16], position: u32) -> 
         _ => 0,
     };
     format!(
-        "startCase {} {} {} {} {}",
+        "start_case {} {} {} {} {}",
         numbers(memory),
         bottom,
         numbers(waits),
