@@ -9,7 +9,7 @@ use host_ends::{MISFIT, end_file_run, end_gate_run, end_read, end_run, end_trave
 use host_reading::{FILE_SIZE, ONE_PLACE, THREE_PLACES, TWO_PLACES, machine_lent, state_lent};
 use lent_clock::clock_once;
 
-// A run of the interpreter from a position of its wait list. `result`: instructions that ran, clock total, list position after.
+// A run of the interpreter from a position of its wait list. `res`: instructions that ran, clock total, list position after.
 #[unsafe(no_mangle)]
 pub extern "C" fn fm8502_run(
     memory: &mut [u32],
@@ -30,7 +30,7 @@ pub extern "C" fn fm8502_run(
     end_run(r, machine, res)
 }
 
-// A file run. `result`: instructions that ran, pairs in the journal.
+// A file run. `res`: instructions that ran, pairs in the journal.
 #[unsafe(no_mangle)]
 pub extern "C" fn fm8502_file_run(
     memory: &mut [u32],
@@ -50,7 +50,7 @@ pub extern "C" fn fm8502_file_run(
     end_file_run(r, machine, res)
 }
 
-// A gate run. `resets`: the clocks, by number from 0, on which reset is held. `result`: instructions finished.
+// A gate run. `resets`: the clocks, by number from 0, on which reset is held. `res`: instructions finished.
 #[unsafe(no_mangle)]
 pub extern "C" fn fm8502_gate_run(
     memory: &mut [u32],
@@ -71,7 +71,7 @@ pub extern "C" fn fm8502_gate_run(
     end_gate_run(r, state, res)
 }
 
-// One clock, on which reset is not held. `result`: instructions finished.
+// One clock, on which reset is not held. `res`: instructions finished.
 #[unsafe(no_mangle)]
 pub extern "C" fn fm8502_clock(
     memory: &mut [u32],
@@ -90,7 +90,7 @@ pub extern "C" fn fm8502_clock(
     end_gate_run(r, state, res)
 }
 
-// A traverse. `files`: four places each; `words`: the words of all files. `result`: the mask of the undone files, or the number of the file that was
+// A traverse. `files`: four places each; `words`: the words of all files. `res`: the mask of the undone files, or the number of the file that was
 // undone; instructions that ran in the last file run; pairs in the journal.
 #[unsafe(no_mangle)]
 pub extern "C" fn fm8502_traverse(
@@ -117,7 +117,7 @@ pub extern "C" fn fm8502_traverse(
     end_traverse(r, machine, res)
 }
 
-// Reads an image: its words to the front of `memory`, its machine. `result`: the image's words, its version.
+// Reads an image: its words to the front of `memory`, its machine. `res`: the image's words, its version.
 #[unsafe(no_mangle)]
 pub extern "C" fn fm8502_image_read(
     bytes: &[u8],
@@ -135,7 +135,7 @@ pub extern "C" fn fm8502_image_read(
     end_read(r, machine, res)
 }
 
-// Writes the image of a machine and its memory, as a version, to the front of `out`. `result`: the image's bytes.
+// Writes the image of a machine and its memory, as a version, to the front of `out`. `res`: the image's bytes.
 #[unsafe(no_mangle)]
 pub extern "C" fn fm8502_image_write(
     memory: &[u32],

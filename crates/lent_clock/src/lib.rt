@@ -32,7 +32,7 @@ pub fn clock_lent(
     r.outcome
 }
 
-// The same for callers that hold the state by value: it is lent for the clock. Its proof is by hand, and theirs need none.
+// The same for callers that hold the state by value: it is lent for the clock.
 pub fn clock_once(
     memory: &mut [u32],
     bottom: u32,

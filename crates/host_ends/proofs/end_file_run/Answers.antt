@@ -1,3 +1,4 @@
+use Rattle.std.proofs.Common.{rules}
 use mathlib.Core.Path.{refl, ap}
 use Rattle.host_calls.specs.Codes.{file_code}
 use Rattle.host_ends.proofs.Ends.{ends-refused, not-finished, file-stopped, file-finished}
@@ -7,7 +8,7 @@ pub returns-in-Refused : goal.returns-in-Refused
 returns-in-Refused c = ends-refused _ _ _ _ _ _ _ _ not-finished c.in-Refused.why (ap file_code c.in-Refused.is) _ c.refusal_number.ensures
 
 pub returns-in-Undone : goal.returns-in-Undone
-returns-in-Undone c = file-stopped _ _ _ _ _ refl refl c.in-Undone.is c.put_two.ensures
+returns-in-Undone c = file-stopped _ _ _ _ _ refl refl c.in-Undone.is (search rules)
 
 pub returns-in-Full : goal.returns-in-Full
 returns-in-Full c = file-stopped _ _ _ _ _ refl refl c.in-Full.is c.put_two-in-Full.ensures
