@@ -1,7 +1,8 @@
 #!/usr/bin/env python3
 """Brings the repository's own names to the spelling of the newer Rattle: snake case for words, fields and lemmas.
 
-usage: python3 tools/respell.py            at the top: renames, in crates/ (.antt and .rt), what tools/respelled.txt lists
+usage: python3 tools/respell.py            at the top: renames, in crates/ (.antt and .rt), what tools/respelled.txt lists; once,
+                                           since 'apart' would take the renamed words for lemmas: a second run changes nothing
        python3 tools/respell.py --list     prints such a list, made from the files as they stand
 
 The list has three kinds of lines: 'word OLD NEW' (a word in camel case, renamed wherever it stands), 'lemma OLD NEW' (a lemma
@@ -105,9 +106,12 @@ def main():
         if line.strip():
             kind, old, new = line.split(" ")
             maps[kind][old] = new
+    texts = {path: read(path) for path in files()}
+    if not any(t.rstrip("'") in maps["word"] for text in texts.values() for t in TOKEN.findall(text)):
+        print("respell: no word of the list stands here: it has run already, and changes nothing", file=sys.stderr)
+        return 1
     changed = 0
-    for path in files():
-        text = read(path)
+    for path, text in texts.items():
         new = turned(text, path, maps["word"], maps["lemma"], maps["apart"])
         if new != text:
             with open(path, "w", encoding="utf-8") as f:
