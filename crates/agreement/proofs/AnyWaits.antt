@@ -5,7 +5,7 @@ use Rattle.model.specs.Board.{board_with}
 use Rattle.model.specs.Refusals.{run_verdict}
 use Rattle.model.proofs.Waiting.{waits-only-wait}
 use Rattle.model.proofs.Verdicts.{accepted}
-use Rattle.interpreter.specs.Calls.{run_answer}
+use Rattle.std.specs.Prelude.{Ok}
 use Rattle.interpreter.proofs.Answers.{returned, left_in}
 use Rattle.agreement.specs.AnyWaits.{AnyWaits}
 
@@ -23,7 +23,7 @@ any_waits memory bottom waits waits' position position' start n r words c z r' w
       left_in memory board' position' start n u d,
     )
     (record {
-      answer = ap (λ (w : Work). run_answer w.ending) same;
+      answer = ap (λ (w : Work). Ok w.ending) same;
       machine = ap (λ (w : Work). w.machine) same;
       ran = ap (λ (w : Work). w.ran) same;
       memory = ap (λ (w : Work). w.memory) same;

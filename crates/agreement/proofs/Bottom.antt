@@ -1,15 +1,14 @@
 -- The bottom of memory: no call alters it, and where nothing is stored below it the calls return and leave what they do with the bottom at 0.
+use Rattle.std.specs.Prelude.{Ok, Err}
 use Prim.Native.Nat.{ℕ}
 use mathlib.Core.Path.{◌≡◌, refl, sym, ap, ◌∙◌}
 use mathlib.Core.List.{List, []}
 use lib.ListN.{take}
-use Rattle.model.specs.declared.Verdict.{Verdict}
-use Rattle.model.specs.declared.Verdict.TheVariants.{Accepted, Refused}
 use Rattle.model.specs.Words.{overlay}
 use Rattle.model.specs.Interpreter.{Run, begin, interpret}
 use Rattle.model.specs.Journal.{Noted, fresh, room_in, run_one, run_noted, completes, journal_words}
 use Rattle.model.specs.GateMachine.{Gate}
-use Rattle.model.specs.Refusals.{left_by, run_verdict, file_verdict, gate_verdict}
+use Rattle.model.specs.Refusals.{left_by, run_verdict, file_verdict, gate_verdict, Verdict}
 use Rattle.model.specs.Agreement.{gate_from}
 use Rattle.model.specs.Bottom.{level}
 use Rattle.model.proofs.Cases.{pick}
@@ -27,8 +26,8 @@ use Rattle.agreement.specs.Bottom.{RunCallKeepsBottom, FileCallKeepsBottom, Gate
 
 -- by a call that leaves words which keep it, or is turned down
 left-keeps : (bottom : ℕ) (memory left : List ℕ) (v : Verdict) → take bottom left ≡ take bottom memory → take bottom (left_by v left memory) ≡ take bottom memory
-left-keeps bottom memory left Accepted e = e
-left-keeps bottom memory left (Refused why) e = refl
+left-keeps bottom memory left (Ok u) e = e
+left-keeps bottom memory left (Err why) e = refl
 
 pub run-call-keeps-bottom : RunCallKeepsBottom
 unfolding run_words
@@ -65,7 +64,7 @@ run-call-as-level memory board position start n never r words c z r' words' c' =
     let v = accepted (run_verdict memory board position) (sym c.number ∙ z) in
     let v' = (accepted-as-level memory board).run position v in
     let e = (run-as-level board n (begin start memory position) never).run in (
-      returned memory board position start n v c ∙ ap (run_result Accepted position start) e ∙ sym (returned memory (level board) position start n v' c'),
+      returned memory board position start n v c ∙ ap (run_result (Ok tt) position start) e ∙ sym (returned memory (level board) position start n v' c'),
       left_in memory board position start n v c ∙ ap (λ (x : Run). x.memory) e ∙ sym (left_in memory (level board) position start n v' c'),
     )
 
@@ -75,7 +74,7 @@ file-call-as-level memory bottom journal start n never r words places c z r' wor
     let v' = (accepted-as-level memory (file_board bottom)).file v in
     let e : whole_file memory bottom journal start n ≡ whole_file memory 0 journal start n =
     (run-as-level (file_board bottom) n (begin start memory 0) never).journal (room_in journal) [] in (
-      file-returned memory bottom journal start n v c ∙ ap (file_result Accepted start) e ∙ sym (file-returned memory 0 journal start n v' c'),
+      file-returned memory bottom journal start n v c ∙ ap (file_result (Ok tt) start) e ∙ sym (file-returned memory 0 journal start n v' c'),
       file-left memory bottom journal start n v c ∙ ap (memory_end memory) e ∙ sym (file-left memory 0 journal start n v' c'),
       file-placed memory bottom journal start n v c
           ∙ ap (λ (k : Noted). overlay (journal_words k.pairs) journal) e
@@ -87,6 +86,6 @@ gate-call-as-level memory board resets start k never r words c z r' words' c' =
     let v = not-refused memory board resets start k c z in
     let v' = (accepted-as-level memory board).gate resets start v in
     let e = gate-as-level board resets k (gate_from start memory) never in (
-      result-of memory board resets start k c v ∙ ap (gate_result Accepted start) e ∙ sym (result-of memory (level board) resets start k c' v'),
+      result-of memory board resets start k c v ∙ ap (gate_result (Ok tt) start) e ∙ sym (result-of memory (level board) resets start k c' v'),
       words_of memory board resets start k c v ∙ ap (λ (x : Gate). x.memory) e ∙ sym (words_of memory (level board) resets start k c' v'),
     )

@@ -1,4 +1,7 @@
 -- The file run beside the run: the wait list changes nothing but the clocks, and a journal that is full stops before an instruction that runs.
+use Rattle.model.specs.declared.Refusal.{Refusal}
+use Rattle.interpreter.specs.declared.FileEnding.{FileEnding}
+use Rattle.std.specs.Prelude.{Ok, Err, Result}
 use Prim.Native.Nat.{ℕ, zero, suc, ◌≤◌, ◌<◌}
 use mathlib.Core.Path.{◌≡◌, refl, sym, ap, ◌∙◌}
 use mathlib.Core.Bool.{Bool, true, false, true≢false}
@@ -8,7 +11,6 @@ use lib.ListN.{length}
 use Rattle.model.specs.declared.Machine.{Machine}
 use Rattle.model.specs.declared.Ending.{Ending}
 use Rattle.model.specs.declared.Ending.TheVariants.{Finished, Outside, NoInstruction}
-use Rattle.model.specs.declared.Verdict.TheVariants.{Accepted}
 use Rattle.model.specs.Board.{Board}
 use Rattle.model.specs.Interpreter.{Run, begin, execute, stop, advance, interpret}
 use Rattle.model.specs.Journal.{Pair, stored_by, noting, Noted, run_one, run_noted, fresh, room_in}
@@ -19,7 +21,6 @@ use Rattle.model.proofs.Runs.{one_more}
 use Rattle.model.proofs.Journals.{by-room, not-full-run, room-kept}
 use Rattle.model.proofs.Waiting.{waits-only-wait}
 use Rattle.model.proofs.Verdicts.{accepted}
-use Rattle.interpreter.specs.declared.FileAnswer.{FileAnswer}
 use Rattle.interpreter.specs.declared.FileResult.{FileResult}
 use Rattle.interpreter.specs.Calls.{run_result, file_answer_of, file_result, memory_end, file_number, file_board, whole_file}
 use Rattle.interpreter.proofs.Answers.{returned, left_in}
@@ -35,11 +36,11 @@ told false NoInstruction = refl
 
 -- the claim for a run i and a file run k, not full, that did the same work
 module _ (memory : List ℕ) (position : ℕ) (start : Machine) (i : Run) (k : Noted) (none : k.full ≡ false) (same : work_of k.run ≡ work_of i) where
-  claim : AsRun memory start i.memory (run_result Accepted position start i) (memory_end memory k) (file_result Accepted start k)
+  claim : AsRun memory start i.memory (run_result (Ok tt) position start i) (memory_end memory k) (file_result (Ok tt) start k)
   claim = go i.ending refl (ap (λ (w : Work). w.ending) same)
     where
       go : (e : Ending) → i.ending ≡ e → k.run.ending ≡ i.ending
-          → AsRun memory start i.memory (run_result Accepted position start i) (memory_end memory k) (file_result Accepted start k)
+          → AsRun memory start i.memory (run_result (Ok tt) position start i) (memory_end memory k) (file_result (Ok tt) start k)
       go Finished e d =
           rw (none, d, e)
           (record {
@@ -114,11 +115,11 @@ module _ (board : Board) where
         e
 
 -- "journal full" is no refusal
-carried : (a : FileAnswer) → is_full a ≡ true → file_number a ≡ 0
-carried FileAnswer.Finished e = refl
-carried FileAnswer.Undone e = refl
-carried FileAnswer.Full e = refl
-carried (FileAnswer.Refused why) e = absurd (true≢false (sym e))
+carried : (a : Result FileEnding Refusal) → is_full a ≡ true → file_number a ≡ 0
+carried (Ok FileEnding.Finished) e = refl
+carried (Ok FileEnding.Undone) e = refl
+carried (Ok FileEnding.Full) e = refl
+carried (Err why) e = absurd (true≢false (sym e))
 
 pub full-as-run : FullAsRun
 full-as-run memory board position journal start n r words c z f words' journal' d y =

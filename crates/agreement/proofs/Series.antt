@@ -1,10 +1,11 @@
 -- A series of gate runs is one gate run of all its clocks and resets.
+use Rattle.gate_machine.specs.Calls.{gate_finished}
+use Rattle.std.specs.Prelude.{Ok}
 use Prim.Native.Nat.{ℕ, ◌+◌}
 use mathlib.Core.Path.{◌≡◌, refl, sym, ap, ◌∙◌}
 use mathlib.Core.Bool.{true}
 use mathlib.Core.List.{List}
 use Rattle.model.specs.declared.GateState.{GateState}
-use Rattle.model.specs.declared.Verdict.TheVariants.{Accepted}
 use Rattle.model.specs.Board.{Board}
 use Rattle.model.specs.Resets.{rises, resets_from, resets_then}
 use Rattle.model.specs.GateMachine.{Gate, gate, gate_run}
@@ -27,8 +28,8 @@ series-as-one board memory start resets k f s m (more {resets = first} {later = 
     ∙ one-run board first later start memory i j
 
 -- another list that rises is taken too
-other_resets : (memory : List ℕ) (board : Board) (resets later : List ℕ) (start : GateState) → gate_verdict memory board resets start ≡ Accepted
-    → rises later ≡ true → gate_verdict memory board later start ≡ Accepted
+other_resets : (memory : List ℕ) (board : Board) (resets later : List ℕ) (start : GateState) → gate_verdict memory board resets start ≡ Ok tt
+    → rises later ≡ true → gate_verdict memory board later start ≡ Ok tt
 unfolding gate_run
 other_resets memory board resets later start v e = next-accepted memory board resets start v later (rw e) 0 refl
 
@@ -42,7 +43,7 @@ series-goes-on board memory start resets k f s m (more {later = before} {s = s�
 
 -- the whole list is taken
 whole-taken : (board : Board) (memory : List ℕ) (start : GateState) (resets : List ℕ) (k f : ℕ) (s : GateState) (m : List ℕ)
-    → Series board memory start resets k f s m → gate_verdict memory board resets start ≡ Accepted
+    → Series board memory start resets k f s m → gate_verdict memory board resets start ≡ Ok tt
 whole-taken board memory start resets k f s m (one h z) = not-refused memory board resets start k h z
 whole-taken board memory start resets k f s m (more {resets = first} {later = later} {i = i} {f = f₁} {s = s₁} {m = m₁} {k = j} p h z) =
     let v = whole-taken board memory start first i f₁ s₁ m₁ p in
@@ -72,7 +73,7 @@ split-anywhere board memory resets start i k whole words w z first words₁ h se
     carried-out memory board resets start (i + k) w v
     ∙ continuation board resets start memory i k
     ∙ ap (λ (g : Gate). gate_sum g (gate_run board rest k (gate_from g.state g.memory))) (sym p)
-    ∙ ap (gate_sum (gate first.state words₁ first.outcome.finished)) (sym q) in
+    ∙ ap (gate_sum (gate first.state words₁ (gate_finished first.outcome))) (sym q) in
     record {
       first_taken = h.number ∙ ap verdict_number v;
       second-taken = d.number ∙ ap verdict_number u;

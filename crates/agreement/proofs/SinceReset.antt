@@ -1,4 +1,5 @@
 -- What follows the last reset, from the model's laws and the calls' contracts.
+use Rattle.std.specs.Prelude.{Ok}
 use Prim.Native.Nat.{ℕ, ◌+◌}
 use mathlib.Core.Path.{◌≡◌, refl, sym, ap, ◌∙◌, subst₂}
 use mathlib.Core.Bool.{true}
@@ -6,7 +7,6 @@ use mathlib.Core.List.{List, []}
 use native.Mathlib.Numerals.{add-one}
 use native.Mathlib.Omega.{arith}
 use Rattle.model.specs.declared.GateState.{GateState}
-use Rattle.model.specs.declared.Verdict.TheVariants.{Accepted}
 use Rattle.model.specs.Board.{Board}
 use Rattle.model.specs.Resets.{is_reset}
 use Rattle.model.specs.Interpreter.{interpret}
@@ -74,7 +74,7 @@ since-reset board memory start n c k f₁ s₁ m₁ f s m w r words run =
     subst₂ (λ (x y : Gate). AgreesSince n k (interpret board n (interpreter_from x.state x.memory)) x y) (sym p) (sym q)
     (agreement-after-reset board w.resets start memory n c k w.last) in
     let begins : Start s₁ = rw (ap (λ (g : Gate). g.state) p) (starts board w.resets c (gate_from start memory) w.last.held) in
-    let taken : run_verdict m₁ board s₁.position ≡ Accepted =
+    let taken : run_verdict m₁ board s₁.position ≡ Ok tt =
     sym (same-verdict m₁ board s₁ begins) ∙ series-goes-on board memory start w.resets₁ (c + 1) f₁ s₁ m₁ w.first [] refl in
     record {
       taken = run.number ∙ ap verdict_number taken;

@@ -1,11 +1,11 @@
 -- The starred bench words of the model hold of the public calls: one law over a table of cases.
+use Rattle.std.specs.Prelude.{Ok}
 use Prim.Native.Nat.{ℕ}
 use mathlib.Core.Path.{◌≡◌, refl, ap, ◌∙◌}
 use mathlib.Core.Bool.{Bool, true, ◌&&◌}
 use mathlib.Core.List.{List, [], ◌∷◌}
 use lib.Dec.{T, eqb, eqb→eq}
 use store.Enc.{and_l, and_r}
-use Rattle.model.specs.declared.Verdict.TheVariants.{Accepted}
 use Rattle.model.specs.Board.{Board, board_with}
 use Rattle.model.specs.Waits.{position_fits}
 use Rattle.model.specs.Interpreter.{Run, interpret}
@@ -35,7 +35,7 @@ all_taken [] = true
 all_taken (c ∷ cs) = taken c && all_taken cs
 
 module _ (c : Case) (t : T (taken c)) (p : T (passes c)) {r : RunResult} {words : List ℕ} (h : Runs c.memory (board_of c) 0 (machine_of (start_of c)) 1 words r) where
-  verdict : run_verdict c.memory (board_of c) 0 ≡ Accepted
+  verdict : run_verdict c.memory (board_of c) 0 ≡ Ok tt
   verdict = accepted (run_verdict c.memory (board_of c) 0) (eqb→eq _ 0 t)
 
   abbrev ran : Run

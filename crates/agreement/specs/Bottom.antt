@@ -56,6 +56,6 @@ abbrev pub GateCallAsLevel : Type 0
 GateCallAsLevel =
     (memory : List ℕ) (board : Board) (resets : List ℕ) (start : GateState) (k : ℕ)
     → no_clock_stores_below board.bottom board resets k (gate_from start memory) ≡ true
-    → (r : GateResult) (words : List ℕ) → GateRuns memory board resets start k words r → gate_number r.outcome.answer ≡ 0
+    → (r : GateResult) (words : List ℕ) → GateRuns memory board resets start k words r → gate_number r.outcome ≡ 0
     → (r' : GateResult) (words' : List ℕ) → GateRuns memory (level board) resets start k words' r'
     → (r ≡ r') × (words ≡ words')

@@ -1,38 +1,39 @@
 -- The file run beside the run, in the terms of what the two calls return by their contracts. Document 01, "File run and journal"; CR 5 to
 -- CR 7 and CR 11.
-use Rattle.std.specs.Prelude.{ℕ, ◌<◌, ◌≡◌, Bool, true, false, List}
+use Rattle.model.specs.declared.Refusal.{Refusal}
+use Rattle.interpreter.specs.declared.FileEnding.{FileEnding}
+use Rattle.model.specs.declared.Ending.{Ending}
+use Rattle.std.specs.Prelude.{ℕ, ◌<◌, ◌≡◌, Bool, true, false, List, Ok, Err, Result}
 use Rattle.model.specs.declared.Machine.{Machine}
 use Rattle.model.specs.Board.{Board}
-use Rattle.interpreter.specs.declared.RunAnswer.{RunAnswer}
 use Rattle.interpreter.specs.declared.RunResult.{RunResult}
-use Rattle.interpreter.specs.declared.FileAnswer.{FileAnswer}
 use Rattle.interpreter.specs.declared.FileResult.{FileResult}
 use Rattle.interpreter.specs.Calls.{Runs, run_number, FileRuns, file_number}
 
 -- CR 11: whether a file run's answer is "journal full"
-abbrev pub is_full : FileAnswer → Bool
-is_full FileAnswer.Finished = false
-is_full FileAnswer.Undone = false
-is_full FileAnswer.Full = true
-is_full (FileAnswer.Refused why) = false
+abbrev pub is_full : Result FileEnding Refusal → Bool
+is_full (Ok FileEnding.Finished) = false
+is_full (Ok FileEnding.Undone) = false
+is_full (Ok FileEnding.Full) = true
+is_full (Err why) = false
 
 -- ---- where the journal is not full
 
 -- "finished" exactly where the run is, "undone" exactly where it is "outside" or "no instruction"
-abbrev pub file_answer : RunAnswer → FileAnswer
-file_answer RunAnswer.Finished = FileAnswer.Finished
-file_answer RunAnswer.Outside = FileAnswer.Undone
-file_answer RunAnswer.NoInstruction = FileAnswer.Undone
-file_answer (RunAnswer.Refused why) = FileAnswer.Refused why
+abbrev pub file_answer : Result Ending Refusal → Result FileEnding Refusal
+file_answer (Ok Ending.Finished) = Ok FileEnding.Finished
+file_answer (Ok Ending.Outside) = Ok FileEnding.Undone
+file_answer (Ok Ending.NoInstruction) = Ok FileEnding.Undone
+file_answer (Err why) = Err why
 
 -- The run returned r and left `words`; the file run returned f and left `words'`. Both ran as many instructions; where the run finished,
 -- machine and memory are the run's, and where it is "outside" or "no instruction" they are those of the start.
 pub record AsRun (memory : List ℕ) (start : Machine) (words : List ℕ) (r : RunResult) (words' : List ℕ) (f : FileResult) : Type 0 where
   pub answer : f.answer ≡ file_answer r.answer
   pub ran : f.ran ≡ r.ran
-  pub finished : r.answer ≡ RunAnswer.Finished → (f.machine ≡ r.machine) × (words' ≡ words)
-  pub outside : r.answer ≡ RunAnswer.Outside → (f.machine ≡ start) × (words' ≡ memory)
-  pub halted : r.answer ≡ RunAnswer.NoInstruction → (f.machine ≡ start) × (words' ≡ memory)
+  pub finished : r.answer ≡ Ok Ending.Finished → (f.machine ≡ r.machine) × (words' ≡ words)
+  pub outside : r.answer ≡ Ok Ending.Outside → (f.machine ≡ start) × (words' ≡ memory)
+  pub halted : r.answer ≡ Ok Ending.NoInstruction → (f.machine ≡ start) × (words' ≡ memory)
 
 -- for every memory, bottom, start, n and journal, and under every wait list from any position, where neither call is turned down
 abbrev pub FileAsRun : Type 0

@@ -1,18 +1,19 @@
 -- CR 7: a run of the interpreter of n instructions, and one of m from the machine, the memory and the list position that it left, are a run of
 -- n + m.
-use Rattle.std.specs.Prelude.{ℕ, ◌+◌, ◌≡◌, List}
+use Rattle.model.specs.declared.Refusal.{Refusal}
+use Rattle.model.specs.declared.Ending.{Ending}
+use Rattle.std.specs.Prelude.{ℕ, ◌+◌, ◌≡◌, List, Ok, Err, Result}
 use Rattle.model.specs.declared.Machine.{Machine}
 use Rattle.model.specs.Board.{Board}
-use Rattle.interpreter.specs.declared.RunAnswer.{RunAnswer}
 use Rattle.interpreter.specs.declared.RunResult.{RunResult}
 use Rattle.interpreter.specs.Calls.{Runs, run_number}
 
 -- a first run that finished leaves the answer to the second; one that stopped, or was turned down, decides it
-abbrev pub answer_sum : (first second : RunAnswer) → RunAnswer
-answer_sum RunAnswer.Finished second = second
-answer_sum RunAnswer.Outside second = RunAnswer.Outside
-answer_sum RunAnswer.NoInstruction second = RunAnswer.NoInstruction
-answer_sum (RunAnswer.Refused why) second = RunAnswer.Refused why
+abbrev pub answer_sum : (first second : Result Ending Refusal) → Result Ending Refusal
+answer_sum (Ok Ending.Finished) second = second
+answer_sum (Ok Ending.Outside) second = Ok Ending.Outside
+answer_sum (Ok Ending.NoInstruction) second = Ok Ending.NoInstruction
+answer_sum (Err why) second = Err why
 
 -- what the second of two runs returned, with the counts and the clocks of both
 abbrev pub result_sum : (first second : RunResult) → RunResult

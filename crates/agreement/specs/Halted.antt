@@ -1,12 +1,12 @@
 -- CR 5: a machine in row 12, in the terms of what the gate run and the clock on a lent state return by their contracts. "The gate machine
 -- completes the read and enters a row 12, where it stays", until a reset (CR 7).
-use Rattle.std.specs.Prelude.{ℕ, ◌<◌, ◌≡◌, false, List}
+use Rattle.model.specs.declared.Refusal.{Refusal}
+use Rattle.std.specs.Prelude.{ℕ, ◌<◌, ◌≡◌, false, List, Result}
 use Rattle.model.specs.declared.GateState.{GateState}
 use Rattle.model.specs.Board.{Board}
 use Rattle.model.specs.Resets.{is_reset}
-use Rattle.gate_machine.specs.declared.GateOutcome.{GateOutcome}
 use Rattle.gate_machine.specs.declared.GateResult.{GateResult}
-use Rattle.gate_machine.specs.Calls.{GateRuns}
+use Rattle.gate_machine.specs.Calls.{GateRuns, gate_finished}
 use Rattle.lent_clock.specs.Calls.{LentClock}
 
 -- the call was lent `memory` and s, and left `memory'` and s'; f instructions finished in it: nothing changed, and none finished
@@ -20,11 +20,11 @@ abbrev pub HaltedRun : Type 0
 HaltedRun =
     (memory : List ℕ) (board : Board) (resets : List ℕ) (s : GateState) (k : ℕ) → s.row ≡ 12 → ((i : ℕ) → i < k → is_reset resets i ≡ false)
     → (r : GateResult) (memory' : List ℕ) → GateRuns memory board resets s k memory' r
-    → Unchanged memory s memory' r.state r.outcome.finished
+    → Unchanged memory s memory' r.state (gate_finished r.outcome)
 
 -- and one clock on a state that is lent
 abbrev pub HaltedClock : Type 0
 HaltedClock =
     (memory : List ℕ) (board : Board) (s : GateState) → s.row ≡ 12
-    → (r : GateOutcome) (s' : GateState) (memory' : List ℕ) → LentClock memory board s memory' s' r
-    → Unchanged memory s memory' s' r.finished
+    → (r : Result ℕ Refusal) (s' : GateState) (memory' : List ℕ) → LentClock memory board s memory' s' r
+    → Unchanged memory s memory' s' (gate_finished r)

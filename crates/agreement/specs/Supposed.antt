@@ -1,8 +1,7 @@
 -- What demand 3 supposes can be met: results of the calls, as `TwoRuns` and `SinceReset` speak of them, for every n and k, and for resets on
 -- any clocks. CR 7.
-use Rattle.std.specs.Prelude.{ℕ, ◌+◌, ◌≤◌, ◌<◌, ◌≡◌, true, List, []}
+use Rattle.std.specs.Prelude.{ℕ, ◌+◌, ◌≤◌, ◌<◌, ◌≡◌, true, List, [], Ok}
 use Rattle.model.specs.declared.GateState.{GateState}
-use Rattle.model.specs.declared.Verdict.TheVariants.{Accepted}
 use Rattle.model.specs.Board.{Board}
 use Rattle.model.specs.Resets.{is_reset}
 use Rattle.model.specs.Refusals.{run_verdict, gate_verdict}
@@ -39,7 +38,7 @@ pub record Clocked (memory : List ℕ) (board : Board) (start : GateState) (rese
 -- for every memory, board and state that a gate run does not turn down, for any resets and every k, also 0 and past 64 bits
 abbrev pub AnyClocks : Type 0
 AnyClocks =
-    (memory : List ℕ) (board : Board) (start : GateState) (resets : List ℕ) (k : ℕ) → gate_verdict memory board [] start ≡ Accepted
+    (memory : List ℕ) (board : Board) (start : GateState) (resets : List ℕ) (k : ℕ) → gate_verdict memory board [] start ≡ Ok tt
     → Clocked memory board start resets k
 
 -- ---- what `TwoRuns` supposes
@@ -54,7 +53,7 @@ pub record Supposed (memory : List ℕ) (board : Board) (start : GateState) (n k
 
 abbrev pub CanBeMet : Type 0
 CanBeMet =
-    (memory : List ℕ) (board : Board) (start : GateState) (n k : ℕ) → Start start → run_verdict memory board start.position ≡ Accepted
+    (memory : List ℕ) (board : Board) (start : GateState) (n k : ℕ) → Start start → run_verdict memory board start.position ≡ Ok tt
     → Supposed memory board start n k
 
 -- ---- what `SinceReset` supposes
@@ -70,5 +69,5 @@ pub record SupposedSince (memory : List ℕ) (board : Board) (start : GateState)
 
 abbrev pub RestartCanBeMet : Type 0
 RestartCanBeMet =
-    (memory : List ℕ) (board : Board) (start : GateState) (resets : List ℕ) (n c k : ℕ) → gate_verdict memory board [] start ≡ Accepted
+    (memory : List ℕ) (board : Board) (start : GateState) (resets : List ℕ) (n c k : ℕ) → gate_verdict memory board [] start ≡ Ok tt
     → LastReset resets c k → SupposedSince memory board start resets n c k

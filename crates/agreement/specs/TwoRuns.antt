@@ -1,13 +1,13 @@
 -- Demand 3 for the public calls `interpreter::run` and `gate_machine::run`, in the terms of what they return by their contracts. Document
 -- 01, "Clocks"; CR 5 to CR 7.
-use Rattle.std.specs.Prelude.{ℕ, ◌≤◌, ◌<◌, ◌≡◌, ◌↔◌, false, List, []}
+use Rattle.model.specs.declared.Ending.{Ending}
+use Rattle.std.specs.Prelude.{ℕ, ◌≤◌, ◌<◌, ◌≡◌, ◌↔◌, false, List, [], Ok}
 use Rattle.model.specs.declared.GateState.{GateState}
 use Rattle.model.specs.Board.{Board}
 use Rattle.model.specs.Resets.{is_reset}
 use Rattle.model.specs.GateMachine.{gate}
 use Rattle.model.specs.Refusals.{run_verdict, gate_verdict}
 use Rattle.model.specs.Agreement.{Mark, mark_of, gate_mark, machine_of}
-use Rattle.interpreter.specs.declared.RunAnswer.{RunAnswer}
 use Rattle.interpreter.specs.declared.RunResult.{RunResult}
 use Rattle.interpreter.specs.Calls.{Runs, run_number}
 use Rattle.agreement.specs.Series.{Series}
@@ -27,9 +27,9 @@ run_mark r memory = mark_of r.ran r.machine memory
 -- instruction" no more finish than ran.
 pub record InStep (n k : ℕ) (r : RunResult) (words : List ℕ) (f : ℕ) (s : GateState) (words' : List ℕ) : Type 0 where
   pub marks : gate_mark (gate s words' f) ≡ run_mark r words ↔ (k ≡ r.clocks)
-  pub all : r.answer ≡ RunAnswer.Finished → r.ran ≡ n
-  pub outside : r.answer ≡ RunAnswer.Outside → f ≤ r.ran
-  pub halted : r.answer ≡ RunAnswer.NoInstruction → f ≤ r.ran
+  pub all : r.answer ≡ Ok Ending.Finished → r.ran ≡ n
+  pub outside : r.answer ≡ Ok Ending.Outside → f ≤ r.ran
+  pub halted : r.answer ≡ Ok Ending.NoInstruction → f ≤ r.ran
 
 -- For every memory, board and start that the interpreter's run does not turn down, for every n, and for every k, done in one gate run or
 -- in a series of them, on none of whose clocks reset is held: k is the sum of the clocks of the runs and may pass 64 bits, and f is the

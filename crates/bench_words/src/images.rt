@@ -1,5 +1,4 @@
 // Images made by the writer, some of them spoilt, and their ledgers.
-use image::WriteAnswer;
 use image_writer::write;
 use ledger_text::{LONGEST_TEXT, ReportAnswer, report};
 use model::{Flags, Machine};
@@ -47,10 +46,7 @@ fn show(name: &[u8], image: &[u8], size: usize) {
 
 // The image of some words, put to the front of a buffer; how long it is, 0 where there is no room for it.
 fn make(words: &[u32], start: Machine, image: &mut [u8]) -> usize {
-    match write(words, start, 1, image) {
-        WriteAnswer::Written(size) => size,
-        WriteAnswer::Refused(_) => 0,
-    }
+    write(words, start, 1, image).unwrap_or(0)
 }
 
 pub fn show_program(name: &[u8], words: &[u32], start: Machine) {

@@ -8,8 +8,8 @@ ghost use Rattle.std.specs.Prelude.{◌≡◌, length};
 ghost use Rattle.traverses.specs.Files.{files_in, file_at};
 ghost use Rattle.traverses.specs.Calls.{files_fit, version_fits, traverse_verdict};
 
-use model::{Refusal, Verdict};
-use refusals::{demand, then};
+use model::Refusal;
+use refusals::demand;
 use sums::{all_placed, sizes};
 use traverses::File;
 use verdicts::file_verdict;
@@ -46,38 +46,37 @@ pub fn file_at(files: &[u32], i: usize) -> File
 }
 
 // Reasons 16, 17 and 18.
-fn files_fit(memory: &[u32], bottom: u32, words: &[u32], files: &[u32]) -> Verdict
+fn files_fit(memory: &[u32], bottom: u32, words: &[u32], files: &[u32]) -> Result<(), Refusal>
     ensures { result ≡ files_fit (files_in files.now) memory.now bottom words.now }
 {
     // The words are added up only where there are few files, so that no sum overflows.
     if MOST_FILES < file_count(files) {
-        return Verdict::Refused(Refusal::TooManyFiles);
+        return Err(Refusal::TooManyFiles);
     }
-    then(
-        demand(all_placed(files, memory, bottom), Refusal::FileMisplaced),
-        demand(sizes(files) == words.len(), Refusal::WordsMismatched),
-    )
+    demand(all_placed(files, memory, bottom), Refusal::FileMisplaced)?;
+    demand(sizes(files) == words.len(), Refusal::WordsMismatched)
 }
 
 // Reason 11.
-fn version_fits(version: u32) -> Verdict
+fn version_fits(version: u32) -> Result<(), Refusal>
     ensures { result ≡ version_fits version }
 {
     demand((version == 1) | (version == 2), Refusal::WrongVersion)
 }
 
 // The first reason to turn a traverse down.
+#[tactic(auto, unfolding(traverses::specs::Calls::traverse_verdict))]
 pub fn traverse_verdict(
     memory: &[u32],
     bottom: u32,
     words: &[u32],
     files: &[u32],
     version: u32,
-) -> Verdict
+) -> Result<(), Refusal>
     ensures { result ≡ traverse_verdict memory.now bottom words.now (files_in files.now) version }
 {
     // 1, 2 and 21; 16, 17 and 18; 11.
-    let base = file_verdict(memory, bottom);
-    let fit = files_fit(memory, bottom, words, files);
-    then(base, then(fit, version_fits(version)))
+    file_verdict(memory, bottom)?;
+    files_fit(memory, bottom, words, files)?;
+    version_fits(version)
 }

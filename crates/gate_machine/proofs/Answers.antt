@@ -1,19 +1,17 @@
 -- A gate run that is accepted or turned down meets its contract, and what the contract says of one that is carried out.
+use Rattle.std.specs.Prelude.{Ok, Err}
 use Prim.Native.Nat.{ℕ}
 use mathlib.Core.Path.{◌≡◌, refl, sym, ap, ◌∙◌}
 use mathlib.Core.List.{List}
 use Rattle.model.specs.declared.GateState.{GateState}
 use Rattle.model.specs.declared.Refusal.{Refusal}
-use Rattle.model.specs.declared.Verdict.{Verdict}
-use Rattle.model.specs.declared.Verdict.TheVariants.{Accepted, Refused}
 use Rattle.model.specs.Board.{Board}
 use Rattle.model.specs.GateMachine.{Gate, gate, gate_run}
-use Rattle.model.specs.Refusals.{verdict_number, left_by, gate_verdict}
+use Rattle.model.specs.Refusals.{verdict_number, left_by, gate_verdict, Verdict}
 use Rattle.model.specs.Agreement.{gate_from}
 use Rattle.model.proofs.Verdicts.{accepted}
-use Rattle.gate_machine.specs.declared.GateAnswer.{GateAnswer}
 use Rattle.gate_machine.specs.declared.GateResult.{GateResult}
-use Rattle.gate_machine.specs.Calls.{gate_result, gate_number, gate_returned, gate_words, GateRuns}
+use Rattle.gate_machine.specs.Calls.{gate_result, gate_number, gate_returned, gate_words, GateRuns, gate_finished}
 
 module _ (memory : List ℕ) (board : Board) (resets : List ℕ) (start : GateState) (clocks : ℕ) {v : Verdict} (said : v ≡ gate_verdict memory board resets start) where
   abbrev end : Gate
@@ -28,17 +26,17 @@ module _ (memory : List ℕ) (board : Board) (resets : List ℕ) (start : GateSt
   left e = ap (λ (w : Verdict). left_by w end.memory memory) (sym e ∙ said)
 
 module _ {memory : List ℕ} {board : Board} {resets : List ℕ} {start : GateState} {clocks : ℕ} {v : Verdict} (said : v ≡ gate_verdict memory board resets start) where
-  pub run-carried : v ≡ Accepted → {s : GateState} {m : List ℕ} {f : ℕ} → gate s m f ≡ gate_run board resets clocks (gate_from start memory)
-      → GateRuns memory board resets start clocks m (record { outcome = record { answer = GateAnswer.Ran; finished = f }; state = s })
+  pub run-carried : v ≡ Ok tt → {s : GateState} {m : List ℕ} {f : ℕ} → gate s m f ≡ gate_run board resets clocks (gate_from start memory)
+      → GateRuns memory board resets start clocks m (record { outcome = Ok f; state = s })
   run-carried e q =
       record {
-        result = ap (gate_result Accepted start) q ∙ returned memory board resets start clocks said e;
+        result = ap (gate_result (Ok tt) start) q ∙ returned memory board resets start clocks said e;
         words = ap (λ (g : Gate). g.memory) q ∙ left memory board resets start clocks said e;
         number = ap verdict_number (sym e ∙ said);
       }
 
-  pub run-refused : {why : Refusal} → v ≡ Refused why
-      → GateRuns memory board resets start clocks memory (record { outcome = record { answer = GateAnswer.Refused why; finished = 0 }; state = start })
+  pub run-refused : {why : Refusal} → v ≡ Err why
+      → GateRuns memory board resets start clocks memory (record { outcome = Err why; state = start })
   run-refused e =
       record {
         result = returned memory board resets start clocks said e;
@@ -53,22 +51,22 @@ unfolding gate_returned
 gate-contracted memory board resets start clocks =
     record { result = refl; words = refl; number = numbered (gate_verdict memory board resets start) (gate_run board resets clocks (gate_from start memory)) }
   where
-    numbered : (v : Verdict) (g : Gate) → gate_number (gate_result v start g).outcome.answer ≡ verdict_number v
-    numbered Accepted g = refl
-    numbered (Refused why) g = refl
+    numbered : (v : Verdict) (g : Gate) → gate_number (gate_result v start g).outcome ≡ verdict_number v
+    numbered (Ok u) g = refl
+    numbered (Err why) g = refl
 
 -- what a call that is carried out returns and leaves
 module _ (memory : List ℕ) (board : Board) (resets : List ℕ) (start : GateState) (clocks : ℕ) {memory' : List ℕ} {r : GateResult}
     (h : GateRuns memory board resets start clocks memory' r) where
   -- what is numbered 0 was not turned down
-  pub not-refused : gate_number r.outcome.answer ≡ 0 → gate_verdict memory board resets start ≡ Accepted
+  pub not-refused : gate_number r.outcome ≡ 0 → gate_verdict memory board resets start ≡ Ok tt
   not-refused z = accepted (gate_verdict memory board resets start) (sym h.number ∙ z)
 
-  module _ (e : gate_verdict memory board resets start ≡ Accepted) where
+  module _ (e : gate_verdict memory board resets start ≡ Ok tt) where
     abbrev last : Gate
     last = gate_run board resets clocks (gate_from start memory)
 
-    pub result-of : r ≡ gate_result Accepted start last
+    pub result-of : r ≡ gate_result (Ok tt) start last
     unfolding gate_returned
     result-of = h.result ∙ ap (λ (v : Verdict). gate_result v start last) e
 
@@ -76,5 +74,5 @@ module _ (memory : List ℕ) (board : Board) (resets : List ℕ) (start : GateSt
     unfolding gate_words
     words_of = h.words ∙ ap (λ (v : Verdict). left_by v last.memory memory) e
 
-    pub carried-out : gate r.state memory' r.outcome.finished ≡ last
-    carried-out = λ i. gate (result-of i).state (words_of i) (result-of i).outcome.finished
+    pub carried-out : gate r.state memory' (gate_finished r.outcome) ≡ last
+    carried-out = λ i. gate (result-of i).state (words_of i) (gate_finished (result-of i).outcome)

@@ -1,4 +1,5 @@
 -- Laws for a run with resets: the clocks up to the next one are a run without, and then comes the reset or the run's end.
+use Rattle.std.specs.Prelude.{Ok}
 use Prim.Native.Nat.{ℕ, ◌+◌, ◌-◌, ◌≤◌, ◌<◌}
 use mathlib.Core.Path.{◌≡◌, refl, sym, ap, ◌∙◌}
 use mathlib.Core.Bool.{Bool, true, false, cond}
@@ -9,7 +10,6 @@ use lib.Dec.{ltb}
 use lib.ListN.{length, get_or}
 use borrow.Author.Tests.{ltb-true, ltb-false}
 use Rattle.model.specs.declared.GateState.{GateState}
-use Rattle.model.specs.declared.Verdict.TheVariants.{Accepted}
 use Rattle.model.specs.Board.{Board}
 use Rattle.model.specs.Resets.{is_reset}
 use Rattle.model.specs.GateMachine.{Gate, gate, on_state, reset_state, gate_run}
@@ -53,14 +53,14 @@ module _ (board : Board) (resets : List ℕ) (start : GateState) (memory₀ : Li
     pub below : i ≤ clocks
     pub words : length memory ≡ length memory₀
 
-  module _ (v : gate_verdict memory₀ board resets start ≡ Accepted) where
+  module _ (v : gate_verdict memory₀ board resets start ≡ Ok tt) where
     pub begins : (clocks : ℕ) → At clocks start memory₀ 0 0 0
     unfolding gate_run
     begins clocks = record { run = refl; due = due-begins resets (resets-rise memory₀ board resets start v); below = omega arith; words = refl }
 
     module _ {clocks : ℕ} {state : GateState} {memory : List ℕ} {finished i j : ℕ} (a : At clocks state memory finished i j) where
       -- the loop over the clocks takes the state
-      pub taken : gate_verdict memory board [] state ≡ Accepted
+      pub taken : gate_verdict memory board [] state ≡ Ok tt
       taken = next-accepted memory₀ board resets start v [] refl i a.run
 
       module _ {until : ℕ} (u : until ≡ next_reset resets j clocks) where

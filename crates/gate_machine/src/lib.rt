@@ -9,26 +9,14 @@ mod resets;
 ghost use Rattle.model.specs.Board.{board_with};
 ghost use Rattle.gate_machine.specs.Calls.{GateRuns};
 
-use model::{GateState, Refusal, Verdict};
+use model::{GateState, Refusal};
 use resets::run_resets;
 use verdicts::gate_verdict;
 
-#[derive(Clone, Copy)]
-pub enum GateAnswer {
-    Ran,
-    Refused(Refusal),
-}
-
-// What a gate run answers beside its state.
-#[derive(Clone, Copy)]
-pub struct GateOutcome {
-    pub answer: GateAnswer,
-    pub finished: u64,
-}
-
+// outcome: how many instructions finished, or why the run was turned down.
 #[derive(Clone, Copy)]
 pub struct GateResult {
-    pub outcome: GateOutcome,
+    pub outcome: Result<u64, Refusal>,
     pub state: GateState,
 }
 
@@ -44,21 +32,15 @@ pub fn run(
     ensures { GateRuns memory.old (board_with bottom waits.now) resets.now start clocks memory.new result }
 {
     match gate_verdict(&*memory, bottom, waits, resets, start) {
-        Verdict::Refused(why) => GateResult {
-            outcome: GateOutcome {
-                answer: GateAnswer::Refused(why),
-                finished: 0,
-            },
+        Err(why) => GateResult {
+            outcome: Err(why),
             state: start,
         },
-        Verdict::Accepted => {
+        Ok(()) => {
             let end = run_resets(memory, bottom, waits, resets, start, clocks);
             let state = end.state;
             GateResult {
-                outcome: GateOutcome {
-                    answer: GateAnswer::Ran,
-                    finished: end.finished,
-                },
+                outcome: Ok(end.finished),
                 state,
             }
         }

@@ -11,7 +11,6 @@ ghost use Rattle.gate_machine.specs.Clock.{Ticks, Stands};
 use super::access::granted;
 use super::parts::each_latch;
 use gate_rows::{Latches, work};
-use model::Verdict;
 use step_table::{ACCESS, FINISHES, STAYS, Step, steps};
 
 // Stuck: no further clock changes anything, unless reset is held on it.
@@ -79,7 +78,7 @@ pub fn run_clocks(
     waits: &[u16],
     clocks: u64,
 ) -> Clocked
-    requires { gate_verdict memory.old (board_with bottom waits.now) [] (state_of regs.old start) ≡ Verdict.Accepted }
+    requires { gate_verdict memory.old (board_with bottom waits.now) [] (state_of regs.old start) ≡ Ok tt }
     ensures { gate (state_of regs.new result.latches) memory.new result.finished ≡ gate_run (board_with bottom waits.now) [] clocks (gate_from (state_of regs.old start) memory.old) }
 {
     let table = steps();

@@ -11,7 +11,7 @@ ghost use Rattle.gate_machine.specs.Resets.{next_reset, ResetLatches};
 use super::machine::run_clocks;
 use super::parts::{latches_of, state_of};
 use gate_rows::Latches;
-use model::{GateState, Verdict};
+use model::GateState;
 
 #[derive(Clone, Copy)]
 pub struct GateEnd {
@@ -49,7 +49,7 @@ pub fn run_resets(
     start: GateState,
     clocks: u64,
 ) -> GateEnd
-    requires { gate_verdict memory.old (board_with bottom waits.now) resets.now start ≡ Verdict.Accepted }
+    requires { gate_verdict memory.old (board_with bottom waits.now) resets.now start ≡ Ok tt }
     ensures { gate result.state memory.new result.finished ≡ gate_run (board_with bottom waits.now) resets.now clocks (gate_from start memory.old) }
 {
     let mut regs = start.regs;

@@ -22,11 +22,10 @@ pub extern "C" fn fm8502_run(
 ) -> u32
     ensures { RunCall memory.old bottom waits.now position machine.old count res.old memory.new machine.new res.new result }
 {
-    let lent = machine_lent(&*machine, res.len(), THREE_PLACES);
-    if !lent.formed {
+    let Some(start) = machine_lent(&*machine, res.len(), THREE_PLACES) else {
         return MISFIT;
-    }
-    let r = interpreter::run(memory, bottom, waits, position, lent.machine, count);
+    };
+    let r = interpreter::run(memory, bottom, waits, position, start, count);
     end_run(r, machine, res)
 }
 
@@ -42,11 +41,10 @@ pub extern "C" fn fm8502_file_run(
 ) -> u32
     ensures { FileCall memory.old bottom journal.old machine.old count res.old memory.new journal.new machine.new res.new result }
 {
-    let lent = machine_lent(&*machine, res.len(), TWO_PLACES);
-    if !lent.formed {
+    let Some(start) = machine_lent(&*machine, res.len(), TWO_PLACES) else {
         return MISFIT;
-    }
-    let r = interpreter::file_run(memory, bottom, journal, lent.machine, count);
+    };
+    let r = interpreter::file_run(memory, bottom, journal, start, count);
     end_file_run(r, machine, res)
 }
 
@@ -63,11 +61,10 @@ pub extern "C" fn fm8502_gate_run(
 ) -> u32
     ensures { GateCall memory.old bottom waits.now resets.now state.old clocks res.old memory.new state.new res.new result }
 {
-    let lent = state_lent(&*state, res.len());
-    if !lent.formed {
+    let Some(start) = state_lent(&*state, res.len()) else {
         return MISFIT;
-    }
-    let r = gate_machine::run(memory, bottom, waits, resets, lent.state, clocks);
+    };
+    let r = gate_machine::run(memory, bottom, waits, resets, start, clocks);
     end_gate_run(r, state, res)
 }
 
@@ -82,11 +79,10 @@ pub extern "C" fn fm8502_clock(
 ) -> u32
     ensures { GateCall memory.old bottom waits.now [] state.old 1 res.old memory.new state.new res.new result }
 {
-    let lent = state_lent(&*state, res.len());
-    if !lent.formed {
+    let Some(start) = state_lent(&*state, res.len()) else {
         return MISFIT;
-    }
-    let r = clock_once(memory, bottom, waits, lent.state);
+    };
+    let r = clock_once(memory, bottom, waits, start);
     end_gate_run(r, state, res)
 }
 
@@ -108,11 +104,9 @@ pub extern "C" fn fm8502_traverse(
     if files.len() % FILE_SIZE != 0 {
         return MISFIT;
     }
-    let lent = machine_lent(&*machine, res.len(), THREE_PLACES);
-    if !lent.formed {
+    let Some(start) = machine_lent(&*machine, res.len(), THREE_PLACES) else {
         return MISFIT;
-    }
-    let start = lent.machine;
+    };
     let r = traverse::traverse(memory, bottom, journal, words, files, start, version);
     end_traverse(r, machine, res)
 }
@@ -127,10 +121,9 @@ pub extern "C" fn fm8502_image_read(
 ) -> u32
     ensures { ReadCall bytes.now memory.old machine.old res.old memory.new machine.new res.new result }
 {
-    let lent = machine_lent(&*machine, res.len(), TWO_PLACES);
-    if !lent.formed {
+    let Some(start) = machine_lent(&*machine, res.len(), TWO_PLACES) else {
         return MISFIT;
-    }
+    };
     let r = image_reader::read(bytes, memory);
     end_read(r, machine, res)
 }
@@ -146,10 +139,9 @@ pub extern "C" fn fm8502_image_write(
 ) -> u32
     ensures { WriteCall memory.now machine.now version out.old res.old out.new res.new result }
 {
-    let lent = machine_lent(machine, res.len(), ONE_PLACE);
-    if !lent.formed {
+    let Some(start) = machine_lent(machine, res.len(), ONE_PLACE) else {
         return MISFIT;
-    }
-    let r = image_writer::write(memory, lent.machine, version, out);
+    };
+    let r = image_writer::write(memory, start, version, out);
     end_write(r, res)
 }

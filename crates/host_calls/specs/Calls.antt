@@ -1,7 +1,8 @@
 -- What each exported call returns and leaves in what it is lent: the calls of the interpreter, the gate machine, a traverse, the image
 -- reader and the image writer, on lent words. Document 01, "Machine and instruction word", "Clocks", "File run and journal", "Image" and "Why a call
 -- is turned down"; CR 1, CR 5, CR 6, CR 7 and CR 11.
-use Rattle.std.specs.Prelude.{ℕ, ◌%◌, ◌≡◌, Bool, cond, ◌&&◌, List, eqb, length}
+use Rattle.model.specs.declared.Refusal.{Refusal}
+use Rattle.std.specs.Prelude.{ℕ, ◌%◌, ◌≡◌, Bool, cond, ◌&&◌, List, eqb, length, Result}
 use Rattle.model.specs.Board.{board_with}
 use Rattle.interpreter.specs.declared.RunResult.{RunResult}
 use Rattle.interpreter.specs.declared.FileResult.{FileResult}
@@ -9,7 +10,6 @@ use Rattle.interpreter.specs.Calls.{run_returned, run_words, file_returned, file
 use Rattle.gate_machine.specs.declared.GateResult.{GateResult}
 use Rattle.gate_machine.specs.Calls.{gate_number, gate_returned, gate_words}
 use Rattle.image.specs.declared.ReadResult.{ReadResult}
-use Rattle.image.specs.declared.WriteAnswer.{WriteAnswer}
 use Rattle.image.specs.Calls.{write_number, write_returned, write_bytes, read_number, read_returned, read_words}
 use Rattle.traverses.specs.declared.TraverseResult.{TraverseResult}
 use Rattle.traverses.specs.Calls.{traverse_returned, traverse_words, traverse_places}
@@ -70,7 +70,7 @@ module _ (memory : List ℕ) (bottom : ℕ) (waits resets state : List ℕ) (clo
   gate_within = gate_returned memory (board_with bottom waits) resets (state_in state) clocks
 
   abbrev pub gate_comes_to : ℕ
-  gate_comes_to = code_if (state_formed state result) (gate_number gate_within.outcome.answer)
+  gate_comes_to = code_if (state_formed state result) (gate_number gate_within.outcome)
 
   pub record GateCall (memory' state' result' : List ℕ) (number : ℕ) : Type 0 where
     pub returned : number ≡ gate_comes_to
@@ -112,7 +112,7 @@ module _ (bytes memory machine result : List ℕ) where
 -- ---- fm8502_image_write: the image writer
 
 module _ (memory machine : List ℕ) (version : ℕ) (out result : List ℕ) where
-  abbrev pub write_within : WriteAnswer
+  abbrev pub write_within : Result ℕ Refusal
   write_within = write_returned memory (machine_in machine) version out
 
   abbrev pub write_comes_to : ℕ

@@ -1,16 +1,17 @@
 -- The code that each call returns, and what it leaves of what it was lent. Document 01, "Why a call is turned down", and
 -- document 02 number the refusals; CR 1, CR 5, CR 7 and CR 11.
-use Rattle.std.specs.Prelude.{ℕ, Bool, cond, ◌||◌, List, [], ◌∷◌, eqb}
+use Rattle.gate_machine.specs.Calls.{gate_finished}
+use Rattle.model.specs.declared.Refusal.{Refusal}
+use Rattle.traverses.specs.declared.TraverseEnding.{TraverseEnding}
+use Rattle.interpreter.specs.declared.FileEnding.{FileEnding}
+use Rattle.model.specs.declared.Ending.{Ending}
+use Rattle.std.specs.Prelude.{ℕ, Bool, cond, ◌||◌, List, [], ◌∷◌, eqb, Ok, Err, Result}
 use Rattle.model.specs.Refusals.{refusal_number}
-use Rattle.interpreter.specs.declared.RunAnswer.{RunAnswer}
 use Rattle.interpreter.specs.declared.RunResult.{RunResult}
-use Rattle.interpreter.specs.declared.FileAnswer.{FileAnswer}
 use Rattle.interpreter.specs.declared.FileResult.{FileResult}
 use Rattle.gate_machine.specs.declared.GateResult.{GateResult}
 use Rattle.image.specs.declared.ReadResult.{ReadResult}
-use Rattle.image.specs.declared.WriteAnswer.{WriteAnswer}
 use Rattle.image.specs.Calls.{write_size, read_count, read_version}
-use Rattle.traverses.specs.declared.TraverseAnswer.{TraverseAnswer}
 use Rattle.traverses.specs.declared.TraverseResult.{TraverseResult}
 
 -- ---- the codes: a refusal has the papers' number; of a gate run, a read and a write the answer's number is the code
@@ -35,25 +36,25 @@ journal_full = 102
 abbrev pub misfit : ℕ
 misfit = 200
 
-abbrev pub run_code : RunAnswer → ℕ
-run_code RunAnswer.Finished = done
-run_code RunAnswer.Outside = stopped
-run_code RunAnswer.NoInstruction = halted
-run_code (RunAnswer.Refused why) = refusal_number why
+abbrev pub run_code : Result Ending Refusal → ℕ
+run_code (Ok Ending.Finished) = done
+run_code (Ok Ending.Outside) = stopped
+run_code (Ok Ending.NoInstruction) = halted
+run_code (Err why) = refusal_number why
 
-abbrev pub file_code : FileAnswer → ℕ
-file_code FileAnswer.Finished = done
-file_code FileAnswer.Undone = stopped
-file_code FileAnswer.Full = journal_full
-file_code (FileAnswer.Refused why) = refusal_number why
+abbrev pub file_code : Result FileEnding Refusal → ℕ
+file_code (Ok FileEnding.Finished) = done
+file_code (Ok FileEnding.Undone) = stopped
+file_code (Ok FileEnding.Full) = journal_full
+file_code (Err why) = refusal_number why
 
 -- CR 1: a traverse under rule 1 that is carried out is done, whichever files were undone
-abbrev pub traverse_code : TraverseAnswer → ℕ
-traverse_code (TraverseAnswer.Marked files) = done
-traverse_code TraverseAnswer.Finished = done
-traverse_code (TraverseAnswer.Undone file) = stopped
-traverse_code (TraverseAnswer.Full file) = journal_full
-traverse_code (TraverseAnswer.Refused why) = refusal_number why
+abbrev pub traverse_code : Result TraverseEnding Refusal → ℕ
+traverse_code (Ok (TraverseEnding.Marked files)) = done
+traverse_code (Ok TraverseEnding.Finished) = done
+traverse_code (Ok (TraverseEnding.Undone file)) = stopped
+traverse_code (Ok (TraverseEnding.Full file)) = journal_full
+traverse_code (Err why) = refusal_number why
 
 -- the code of a call that goes on only where what is lent has the layout's lengths
 abbrev pub code_if : Bool → ℕ → ℕ
@@ -87,16 +88,16 @@ file_counts r = r.ran ∷ r.pairs ∷ []
 
 -- the instructions finished
 abbrev pub gate_counts : GateResult → List ℕ
-gate_counts r = r.outcome.finished ∷ []
+gate_counts r = gate_finished r.outcome ∷ []
 
 -- CR 1: the mask of the undone files, or the number of the file that was undone or had its journal full, 0 where none was; the instructions that
 -- ran in the last file run, the journal's pairs
-abbrev pub undone_files : TraverseAnswer → ℕ
-undone_files (TraverseAnswer.Marked files) = files
-undone_files TraverseAnswer.Finished = 0
-undone_files (TraverseAnswer.Undone file) = file
-undone_files (TraverseAnswer.Full file) = file
-undone_files (TraverseAnswer.Refused why) = 0
+abbrev pub undone_files : Result TraverseEnding Refusal → ℕ
+undone_files (Ok (TraverseEnding.Marked files)) = files
+undone_files (Ok TraverseEnding.Finished) = 0
+undone_files (Ok (TraverseEnding.Undone file)) = file
+undone_files (Ok (TraverseEnding.Full file)) = file
+undone_files (Err why) = 0
 
 abbrev pub traverse_counts : TraverseResult → List ℕ
 traverse_counts r = undone_files r.answer ∷ r.ran ∷ r.pairs ∷ []
@@ -106,5 +107,5 @@ abbrev pub read_counts : ReadResult → List ℕ
 read_counts r = read_count r.answer ∷ read_version r.answer ∷ []
 
 -- the image's bytes
-abbrev pub write_counts : WriteAnswer → List ℕ
+abbrev pub write_counts : Result ℕ Refusal → List ℕ
 write_counts r = write_size r ∷ []

@@ -1,4 +1,8 @@
 -- A call's end, by whether it was carried out and by what the call within answered.
+use Rattle.image.specs.declared.LoadedImage.{LoadedImage}
+use Rattle.traverses.specs.declared.TraverseEnding.{TraverseEnding}
+use Rattle.interpreter.specs.declared.FileEnding.{FileEnding}
+use Rattle.std.specs.Prelude.{Ok, Err, Result}
 use Prim.Native.Nat.{ℕ}
 use mathlib.Core.Path.{◌≡◌}
 use mathlib.Core.Bool.{Bool, true, false}
@@ -9,14 +13,9 @@ use Rattle.model.specs.declared.Refusal.{Refusal}
 use Rattle.model.specs.Refusals.{refusal_number}
 use Rattle.model.proofs.Verdicts.{numbered}
 use Rattle.interpreter.specs.declared.RunResult.{RunResult}
-use Rattle.interpreter.specs.declared.FileAnswer.{FileAnswer}
 use Rattle.interpreter.specs.declared.FileResult.{FileResult}
-use Rattle.gate_machine.specs.declared.GateAnswer.{GateAnswer}
 use Rattle.gate_machine.specs.declared.GateResult.{GateResult}
-use Rattle.image.specs.declared.ReadAnswer.{ReadAnswer}
 use Rattle.image.specs.declared.ReadResult.{ReadResult}
-use Rattle.image.specs.declared.WriteAnswer.{WriteAnswer}
-use Rattle.traverses.specs.declared.TraverseAnswer.{TraverseAnswer}
 use Rattle.traverses.specs.declared.TraverseResult.{TraverseResult}
 use Rattle.host_reading.specs.Layout.{three_places, two_places, one_place, machine_size, state_size}
 use Rattle.host_words.specs.Words.{machine_words, state_words, laid}
@@ -59,39 +58,39 @@ module _ (r : RunResult) (code : ℕ) (n : code ≡ run_code r.answer) (lent res
 
 -- "undone" and "journal full" write the result alone
 module _ (lent result result' : List ℕ) where
-  pub file-stopped : (r : FileResult) (a : FileAnswer) → carried_out (file_code a) ≡ true → finishes (file_code a) ≡ false → r.answer ≡ a
+  pub file-stopped : (r : FileResult) (a : Result FileEnding Refusal) → carried_out (file_code a) ≡ true → finishes (file_code a) ≡ false → r.answer ≡ a
       → result' ≡ laid two_places (file_counts r) result → FileEnds r lent result lent result' (file_code a)
   file-stopped r a w s e p = record { returned = rw e; parts = rw (e, s); numbers = rw (e, w) p }
 
-  pub traverse_stopped : (r : TraverseResult) (file : ℕ) (a : TraverseAnswer) → carried_out (traverse_code a) ≡ true → finishes (traverse_code a) ≡ false
+  pub traverse_stopped : (r : TraverseResult) (file : ℕ) (a : Result TraverseEnding Refusal) → carried_out (traverse_code a) ≡ true → finishes (traverse_code a) ≡ false
       → undone_files a ≡ file → r.answer ≡ a
       → result' ≡ laid three_places (file ∷ r.ran ∷ r.pairs ∷ []) result → TraverseEnds r lent result lent result' (traverse_code a)
   traverse_stopped r file a w s u e p = record { returned = rw e; parts = rw (e, s); numbers = rw (e, w, u) p }
 
 module _ (lent result lent' result' : List ℕ) where
-  pub traverse_done : (r : TraverseResult) (files : ℕ) (a : TraverseAnswer) → traverse_code a ≡ done → undone_files a ≡ files → r.answer ≡ a
+  pub traverse_done : (r : TraverseResult) (files : ℕ) (a : Result TraverseEnding Refusal) → traverse_code a ≡ done → undone_files a ≡ files → r.answer ≡ a
       → lent' ≡ laid machine_size (machine_words r.machine) lent
       → result' ≡ laid three_places (files ∷ r.ran ∷ r.pairs ∷ []) result → TraverseEnds r lent result lent' result' done
   traverse_done r files a c u e w p = record { returned = rw (e, c); parts = rw (e, c) w; numbers = rw (e, c, u) p }
 
-  pub file-finished : (r : FileResult) → r.answer ≡ FileAnswer.Finished → lent' ≡ laid machine_size (machine_words r.machine) lent
+  pub file-finished : (r : FileResult) → r.answer ≡ Ok FileEnding.Finished → lent' ≡ laid machine_size (machine_words r.machine) lent
       → result' ≡ laid two_places (file_counts r) result → FileEnds r lent result lent' result' done
   file-finished r e w p = record { returned = rw e; parts = rw e w; numbers = rw e p }
 
-  pub gate-done : (r : GateResult) → r.outcome.answer ≡ GateAnswer.Ran → lent' ≡ laid state_size (state_words r.state) lent
+  pub gate-done : (r : GateResult) → r.outcome ≡ Ok tt → lent' ≡ laid state_size (state_words r.state) lent
       → result' ≡ laid one_place (gate_counts r) result → GateEnds r lent result lent' result' done
   gate-done r e w p = record { returned = rw e; parts = rw e w; numbers = rw e p }
 
-  pub read_done : (r : ReadResult) (words version : ℕ) → r.answer ≡ ReadAnswer.Loaded words version
+  pub read_done : (r : ReadResult) (words version : ℕ) → r.answer ≡ Ok (record { words = words; version = version })
       → lent' ≡ laid machine_size (machine_words r.machine) lent → result' ≡ laid two_places (words ∷ version ∷ []) result
       → ReadEnds r lent result lent' result' done
   read_done r words version e w p = record { returned = rw e; parts = rw e w; numbers = rw e p }
 
-module _ (r : WriteAnswer) (result : List ℕ) where
-  pub write_done : (size : ℕ) → r ≡ WriteAnswer.Written size → (result' : List ℕ) → result' ≡ laid one_place (size ∷ []) result
+module _ (r : Result ℕ Refusal) (result : List ℕ) where
+  pub write_done : (size : ℕ) → r ≡ Ok size → (result' : List ℕ) → result' ≡ laid one_place (size ∷ []) result
       → WriteEnds r result result' done
   write_done size e result' p = record { returned = rw e; numbers = rw e p }
 
-  pub write_refused : (why : Refusal) → r ≡ WriteAnswer.Refused why → (number : ℕ) → number ≡ refusal_number why
+  pub write_refused : (why : Refusal) → r ≡ Err why → (number : ℕ) → number ≡ refusal_number why
       → WriteEnds r result result number
   write_refused why e number n = record { returned = rw e n; numbers = rw (e, turned_down why) }

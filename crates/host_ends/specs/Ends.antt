@@ -1,12 +1,12 @@
 -- How each call ends, from what the call within it returned. Document 01, "Machine and instruction word", "Clocks" and "Why a call is turned
 -- down"; CR 1.
-use Rattle.std.specs.Prelude.{ℕ, ◌≡◌, Bool, cond, List}
+use Rattle.model.specs.declared.Refusal.{Refusal}
+use Rattle.std.specs.Prelude.{ℕ, ◌≡◌, Bool, cond, List, Result}
 use Rattle.interpreter.specs.declared.RunResult.{RunResult}
 use Rattle.interpreter.specs.declared.FileResult.{FileResult}
 use Rattle.gate_machine.specs.declared.GateResult.{GateResult}
 use Rattle.gate_machine.specs.Calls.{gate_number}
 use Rattle.image.specs.declared.ReadResult.{ReadResult}
-use Rattle.image.specs.declared.WriteAnswer.{WriteAnswer}
 use Rattle.image.specs.Calls.{write_number, read_number}
 use Rattle.traverses.specs.declared.TraverseResult.{TraverseResult}
 use Rattle.host_reading.specs.Layout.{three_places, two_places, one_place, machine_size, state_size}
@@ -28,7 +28,7 @@ abbrev pub FileEnds : FileResult → (machine result machine' result' : List ℕ
 FileEnds r = Ends finishes (file_code r.answer) machine_size (machine_words r.machine) two_places (file_counts r)
 
 abbrev pub GateEnds : GateResult → (state result state' result' : List ℕ) → ℕ → Type 0
-GateEnds r = Ends carried_out (gate_number r.outcome.answer) state_size (state_words r.state) one_place (gate_counts r)
+GateEnds r = Ends carried_out (gate_number r.outcome) state_size (state_words r.state) one_place (gate_counts r)
 
 abbrev pub TraverseEnds : TraverseResult → (machine result machine' result' : List ℕ) → ℕ → Type 0
 TraverseEnds r = Ends finishes (traverse_code r.answer) machine_size (machine_words r.machine) three_places (traverse_counts r)
@@ -37,6 +37,6 @@ abbrev pub ReadEnds : ReadResult → (machine result machine' result' : List ℕ
 ReadEnds r = Ends carried_out (read_number r.answer) machine_size (machine_words r.machine) two_places (read_counts r)
 
 -- a write's end: the code that it returns, the result's place
-pub record WriteEnds (r : WriteAnswer) (result result' : List ℕ) (number : ℕ) : Type 0 where
+pub record WriteEnds (r : Result ℕ Refusal) (result result' : List ℕ) (number : ℕ) : Type 0 where
   pub returned : number ≡ write_number r
   pub numbers : result' ≡ after_call (write_number r) (laid one_place (write_counts r) result) result

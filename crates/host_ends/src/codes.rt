@@ -3,7 +3,7 @@
 ghost use Rattle.std.specs.Prelude.{◌≡◌};
 ghost use Rattle.host_calls.specs.Codes.{run_code, carried_out};
 
-use interpreter::RunAnswer;
+use model::{Ending, Refusal};
 use refusals::refusal_number;
 
 pub const DONE: u32 = 0;
@@ -16,14 +16,14 @@ pub const JOURNAL_FULL: u32 = 102;
 
 pub const MISFIT: u32 = 200;
 
-pub fn run_code(answer: RunAnswer) -> u32
+pub fn run_code(answer: Result<Ending, Refusal>) -> u32
     ensures { result ≡ run_code answer }
 {
     match answer {
-        RunAnswer::Finished => DONE,
-        RunAnswer::Outside => STOPPED,
-        RunAnswer::NoInstruction => HALTED,
-        RunAnswer::Refused(why) => refusal_number(why),
+        Ok(Ending::Finished) => DONE,
+        Ok(Ending::Outside) => STOPPED,
+        Ok(Ending::NoInstruction) => HALTED,
+        Err(why) => refusal_number(why),
     }
 }
 

@@ -9,13 +9,14 @@ ghost use Rattle.host_ends.specs.Ends.{RunEnds, FileEnds, GateEnds, TraverseEnds
 
 pub use codes::MISFIT;
 use codes::{DONE, JOURNAL_FULL, STOPPED, carried_out, run_code};
-use gate_machine::{GateAnswer, GateResult};
+use gate_machine::GateResult;
 use host_words::{put_machine, put_state};
-use image::{ReadAnswer, ReadResult, WriteAnswer};
-use interpreter::{FileAnswer, FileResult, RunResult};
+use image::{LoadedImage, ReadResult};
+use interpreter::{FileEnding, FileResult, RunResult};
+use model::Refusal;
 use places::{put_one, put_three, put_two};
 use refusals::refusal_number;
-use traverses::{TraverseAnswer, TraverseResult};
+use traverses::{TraverseEnding, TraverseResult};
 
 pub fn end_run(r: RunResult, machine: &mut [u32], res: &mut [u64]) -> u32
     ensures { RunEnds r machine.old res.old machine.new res.new result }
@@ -34,16 +35,16 @@ pub fn end_file_run(r: FileResult, machine: &mut [u32], res: &mut [u64]) -> u32
 {
     let answer = r.answer;
     match answer {
-        FileAnswer::Refused(why) => refusal_number(why),
-        FileAnswer::Undone => {
+        Err(why) => refusal_number(why),
+        Ok(FileEnding::Undone) => {
             put_two(r.ran as u64, r.pairs as u64, res);
             STOPPED
         }
-        FileAnswer::Full => {
+        Ok(FileEnding::Full) => {
             put_two(r.ran as u64, r.pairs as u64, res);
             JOURNAL_FULL
         }
-        FileAnswer::Finished => {
+        Ok(FileEnding::Finished) => {
             put_machine(r.machine, machine);
             put_two(r.ran as u64, r.pairs as u64, res);
             DONE
@@ -55,12 +56,11 @@ pub fn end_gate_run(r: GateResult, state: &mut [u32], res: &mut [u64]) -> u32
     ensures { GateEnds r state.old res.old state.new res.new result }
 {
     let outcome = r.outcome;
-    let answer = outcome.answer;
-    match answer {
-        GateAnswer::Refused(why) => refusal_number(why),
-        GateAnswer::Ran => {
+    match outcome {
+        Err(why) => refusal_number(why),
+        Ok(finished) => {
             put_state(r.state, state);
-            put_one(outcome.finished, res);
+            put_one(finished, res);
             DONE
         }
     }
@@ -71,21 +71,21 @@ pub fn end_traverse(r: TraverseResult, machine: &mut [u32], res: &mut [u64]) -> 
 {
     let answer = r.answer;
     match answer {
-        TraverseAnswer::Refused(why) => refusal_number(why),
-        TraverseAnswer::Undone(file) => {
+        Err(why) => refusal_number(why),
+        Ok(TraverseEnding::Undone(file)) => {
             put_three(file as u64, r.ran as u64, r.pairs as u64, res);
             STOPPED
         }
-        TraverseAnswer::Full(file) => {
+        Ok(TraverseEnding::Full(file)) => {
             put_three(file as u64, r.ran as u64, r.pairs as u64, res);
             JOURNAL_FULL
         }
-        TraverseAnswer::Finished => {
+        Ok(TraverseEnding::Finished) => {
             put_machine(r.machine, machine);
             put_three(0, r.ran as u64, r.pairs as u64, res);
             DONE
         }
-        TraverseAnswer::Marked(files) => {
+        Ok(TraverseEnding::Marked(files)) => {
             put_machine(r.machine, machine);
             put_three(files, r.ran as u64, r.pairs as u64, res);
             DONE
@@ -98,8 +98,8 @@ pub fn end_read(r: ReadResult, machine: &mut [u32], res: &mut [u64]) -> u32
 {
     let answer = r.answer;
     match answer {
-        ReadAnswer::Refused(why) => refusal_number(why),
-        ReadAnswer::Loaded(words, version) => {
+        Err(why) => refusal_number(why),
+        Ok(LoadedImage { words, version }) => {
             put_machine(r.machine, machine);
             put_two(words as u64, version as u64, res);
             DONE
@@ -107,12 +107,12 @@ pub fn end_read(r: ReadResult, machine: &mut [u32], res: &mut [u64]) -> u32
     }
 }
 
-pub fn end_write(r: WriteAnswer, res: &mut [u64]) -> u32
+pub fn end_write(r: Result<usize, Refusal>, res: &mut [u64]) -> u32
     ensures { WriteEnds r res.old res.new result }
 {
     match r {
-        WriteAnswer::Refused(why) => refusal_number(why),
-        WriteAnswer::Written(size) => {
+        Err(why) => refusal_number(why),
+        Ok(size) => {
             put_one(size as u64, res);
             DONE
         }

@@ -1,13 +1,11 @@
 -- Where a machine and a gate state stand in the words that a host lends, how many words, result places and places of a file (CR 1) are due, and
 -- what a call starts from. Document 01, "Machine and instruction word", "Clocks" and, for words that no state can have, reason 4 of "Why a call is turned down".
-use Rattle.std.specs.Prelude.{ℕ, min, Bool, not, cond, ◌&&◌, List, [], ◌∷◌, eqb, leb, length}
+use Rattle.std.specs.Prelude.{ℕ, min, Bool, not, cond, ◌&&◌, List, [], ◌∷◌, eqb, leb, length, Option, Some, None}
 use Rattle.model.specs.declared.Flags.{Flags}
 use Rattle.model.specs.declared.Machine.{Machine}
 use Rattle.model.specs.declared.GateState.{GateState}
 use Rattle.model.specs.Words.{word_at}
 use Rattle.model.specs.Interpreter.{machine_with}
-use Rattle.host_reading.specs.declared.MachineLent.{MachineLent}
-use Rattle.host_reading.specs.declared.StateLent.{StateLent}
 
 -- where a call reads a flag word, any word other than 0 counts as 1
 abbrev pub truth : ℕ → Bool
@@ -99,21 +97,14 @@ module _ (words : List ℕ) (m : Machine) (row left : ℕ) where
 unfoldable pub state_in : List ℕ → GateState
 state_in words = state_around words (machine_in words) (row_in (word_at words 12) (word_at words 20)) (left_in (word_at words 20))
 
--- ---- what a call starts from: the words, or none where what is lent does not fit; a word that is not there counts as 0
+-- ---- what a call starts from, where what is lent fits
 
 -- whether a machine or a state of a size has so many words, and a result so many places as are due
 unfoldable pub lent_formed : (size due words places : ℕ) → Bool
 lent_formed size due words places = eqb words size && eqb places due
 
-abbrev pub words_if : Bool → List ℕ → List ℕ
-words_if formed words = cond formed words []
+unfoldable pub machine_lent : List ℕ → (places due : ℕ) → Option Machine
+machine_lent words places due = cond (lent_formed machine_size due (length words) places) (Some (machine_in words)) None
 
-unfoldable pub machine_lent : List ℕ → (places due : ℕ) → MachineLent
-machine_lent words places due =
-    let formed = lent_formed machine_size due (length words) places in
-    record { formed = formed; machine = machine_in (words_if formed words) }
-
-unfoldable pub state_lent : List ℕ → (places : ℕ) → StateLent
-state_lent words places =
-    let formed = lent_formed state_size one_place (length words) places in
-    record { formed = formed; state = state_in (words_if formed words) }
+unfoldable pub state_lent : List ℕ → (places : ℕ) → Option GateState
+state_lent words places = cond (lent_formed state_size one_place (length words) places) (Some (state_in words)) None

@@ -27,45 +27,24 @@ pub const TWO_PLACES: usize = 2;
 // The result's place of every other call.
 pub const ONE_PLACE: usize = 1;
 
-// A machine, and whether what is lent has the layout's lengths; all 0 where it has not.
-#[derive(Clone, Copy)]
-pub struct MachineLent {
-    pub formed: bool,
-    pub machine: Machine,
-}
-
-#[derive(Clone, Copy)]
-pub struct StateLent {
-    pub formed: bool,
-    pub state: GateState,
-}
-
-pub fn machine_lent(words: &[u32], places: usize, due: usize) -> MachineLent
+// A machine, where what is lent has the layout's lengths.
+pub fn machine_lent(words: &[u32], places: usize, due: usize) -> Option<Machine>
     ensures { result ≡ machine_lent words.now places due }
 {
     if lent_formed(MACHINE_SIZE, due, words.len(), places) {
-        return MachineLent {
-            formed: true,
-            machine: machine_in(words),
-        };
-    }
-    MachineLent {
-        formed: false,
-        machine: machine_in(&[0; MACHINE_SIZE]),
+        Some(machine_in(words))
+    } else {
+        None
     }
 }
 
-pub fn state_lent(words: &[u32], places: usize) -> StateLent
+// A gate state, likewise.
+pub fn state_lent(words: &[u32], places: usize) -> Option<GateState>
     ensures { result ≡ state_lent words.now places }
 {
     if lent_formed(STATE_SIZE, ONE_PLACE, words.len(), places) {
-        return StateLent {
-            formed: true,
-            state: state_in(words),
-        };
-    }
-    StateLent {
-        formed: false,
-        state: state_in(&[0; STATE_SIZE]),
+        Some(state_in(words))
+    } else {
+        None
     }
 }

@@ -1,4 +1,5 @@
 -- Whatever is left of an image once bytes are missing at its end is refused with 8.
+use Rattle.std.specs.Prelude.{Ok, Err}
 use Prim.Native.Nat.{ℕ, zero, suc, ◌+◌, ◌-◌, ◌*◌, ◌^◌, ◌≤◌, ◌<◌, min}
 use mathlib.Core.Path.{◌≡◌, refl, sym, ap, subst, ◌∙◌}
 use mathlib.Core.Bool.{Bool, true}
@@ -10,10 +11,8 @@ use lib.ListN.{length, take, drop, length-append, length-take}
 use lib.Seq.{take-append-add}
 use borrow.Author.Tests.{le-leb}
 use Rattle.model.specs.declared.Refusal.TheVariants.{CutImage, WrongVersion, BadFlag}
-use Rattle.model.specs.declared.Verdict.{Verdict}
-use Rattle.model.specs.declared.Verdict.TheVariants.{Accepted, Refused}
 use Rattle.model.specs.Packed.{flag_numbers}
-use Rattle.model.specs.Refusals.{demand, most_words}
+use Rattle.model.specs.Refusals.{demand, most_words, Verdict}
 use Rattle.image.specs.Bytes.{bytes_of, number_in, word_bytes, words_in, Below}
 use Rattle.image.specs.Format.{Field, field_bytes, is_version, version_field, registers_field, flags_field, count_field, words_field, end_field, words_per_field, fields_for, memory_fields, image_of}
 use Rattle.image.specs.Reading.{Outcome, refused, ◌▷◌, field_verdict, read_field, read_memory, read_of}
@@ -28,14 +27,14 @@ use Rattle.image.proofs.Stages.{end_from}
 -- ---- a field that is cut, or after which something is
 
 module _ (f : Field) (value rest : List ℕ) (next : List ℕ → List ℕ → Outcome)
-    (long : length value ≡ f.due) (short : f.due < 65536) (follows : f.rule value ≡ Accepted) where
-  header-cut : (k : ℕ) → k < 3 → field_verdict f (take k (field_bytes f value ++ rest)) ≡ Refused CutImage
+    (long : length value ≡ f.due) (short : f.due < 65536) (follows : f.rule value ≡ Ok tt) where
+  header-cut : (k : ℕ) → k < 3 → field_verdict f (take k (field_bytes f value ++ rest)) ≡ Err CutImage
   header-cut k h =
       let part : List ℕ = take k (field_bytes f value ++ rest) in
       let l : length part ≡ min k (length (field_bytes f value ++ rest)) = length-take k (field_bytes f value ++ rest) in
       sym (with_rule f part refl (cut-header f.tag f.due 0 part (omega arith)) refl)
 
-  value-cut : (j : ℕ) → j < f.due → field_verdict f (take (suc (suc (suc j))) (field_bytes f value ++ rest)) ≡ Refused CutImage
+  value-cut : (j : ℕ) → j < f.due → field_verdict f (take (suc (suc (suc j))) (field_bytes f value ++ rest)) ≡ Err CutImage
   unfolding field_bytes bytes_of
   value-cut j h =
       let part : List ℕ = take (suc (suc (suc j))) (field_bytes f value ++ rest) in
@@ -53,7 +52,7 @@ module _ (f : Field) (value rest : List ℕ) (next : List ℕ → List ℕ → O
       all : List ℕ
       all = field_bytes f value ++ rest
 
-      missing : field_verdict f (take k all) ≡ Refused CutImage → read_field f (take k all) next ≡ refused CutImage
+      missing : field_verdict f (take k all) ≡ Err CutImage → read_field f (take k all) next ≡ refused CutImage
       missing e = ap (λ (v : Verdict). v ▷ next (take f.due (drop 3 (take k all))) (drop (3 + f.due) (take k all))) e
 
       go : Dec (k < 3) → Dec (k < 3 + f.due) → read_field f (take k all) next ≡ refused CutImage
@@ -65,7 +64,7 @@ module _ (f : Field) (value rest : List ℕ) (next : List ℕ → List ℕ → O
           let j : ℕ = k - (3 + f.due) in
           let e : k ≡ length (field_bytes f value) + j = omega (arith, length-field f value) in
           let h' : j < length rest = omega (arith, length-field f value, length-append (field_bytes f value) rest) in
-          field-goes f value (take j rest) long short (take k all) next Accepted Accepted (refused CutImage)
+          field-goes f value (take j rest) long short (take k all) next (Ok tt) (Ok tt) (refused CutImage)
           (ap (λ (n : ℕ). take n all) e ∙ take-append-add (field_bytes f value) rest j) follows (later j h')
 
 end-cut : (next : List ℕ → List ℕ → Outcome) (k : ℕ) → k < length (field_bytes end_field []) → read_field end_field (take k (field_bytes end_field [])) next ≡ refused CutImage
@@ -93,7 +92,7 @@ memory-cut (suc n) words memory rest next l h b later k q =
 
 -- ---- the image
 
-count-rule : (memory : List ℕ) (room : ℕ) → 1 ≤ length memory → length memory ≤ most_words → length memory ≤ room → (count_field room).rule (bytes_of 4 (length memory)) ≡ Accepted
+count-rule : (memory : List ℕ) (room : ℕ) → 1 ≤ length memory → length memory ≤ most_words → length memory ≤ room → (count_field room).rule (bytes_of 4 (length memory)) ≡ Ok tt
 count-rule memory room some most fits =
     let M : ℕ = number_in (bytes_of 4 (length memory)) in
     let e : M ≡ length memory = number-bytes 4 (length memory) (omega arith) in
@@ -102,7 +101,7 @@ count-rule memory room some most fits =
     let c : leb M room ≡ true = le-leb M room (omega arith) in
     rw (a, b, c)
 
-version-rule : (version : ℕ) → is_version version ≡ true → version_field.rule (version ∷ []) ≡ Accepted
+version-rule : (version : ℕ) → is_version version ≡ true → version_field.rule (version ∷ []) ≡ Ok tt
 unfolding number_in
 version-rule version known =
     let e : version + 0 ≡ version = omega arith in

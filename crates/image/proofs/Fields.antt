@@ -1,4 +1,5 @@
 -- One field: what is written is read back, and what is read was written so.
+use Rattle.std.specs.Prelude.{Ok}
 use Prim.Native.Nat.{ℕ, suc, ◌+◌, ◌≤◌, ◌<◌}
 use mathlib.Core.Path.{◌≡◌, refl, sym, ap, ap₂, ◌∙◌}
 use mathlib.Core.List.{List, [], ◌∷◌, ◌++◌}
@@ -8,9 +9,7 @@ use lib.ListN.{length, take, drop, get_or, length-append, take-append-drop}
 use lib.Seq.{take_at, drop_at, length-take-le}
 use borrow.Author.Tests.{leb-true, eqb-true}
 use Rattle.model.specs.declared.Machine.{Machine}
-use Rattle.model.specs.declared.Verdict.{Verdict}
-use Rattle.model.specs.declared.Verdict.TheVariants.{Accepted}
-use Rattle.model.specs.Refusals.{demand, ◌then◌}
+use Rattle.model.specs.Refusals.{demand, ◌then◌, Verdict}
 use Rattle.model.proofs.Verdicts.{demanded, both}
 use Rattle.image.specs.Bytes.{bytes_of, number_in, Below}
 use Rattle.image.specs.Format.{Field, field_bytes}
@@ -55,16 +54,16 @@ pub record FieldTaken (f : Field) (bytes : List ℕ) (next : List ℕ → List �
   pub rest : List ℕ
   pub is : bytes ≡ field_bytes f value ++ rest
   pub long : length value ≡ f.due
-  pub follows : f.rule value ≡ Accepted
+  pub follows : f.rule value ≡ Ok tt
   pub value-below : Below 256 value
   pub rest_below : Below 256 rest
   pub goes : next value rest ≡ o
 
 module _ (f : Field) where
   -- what an accepted field shows
-  pub facts : (bytes : List ℕ) → field_verdict f bytes ≡ Accepted
+  pub facts : (bytes : List ℕ) → field_verdict f bytes ≡ Ok tt
       → (3 ≤ length bytes) × (get_or bytes 0 0 ≡ f.tag) × (number_in (take 2 (drop 1 bytes)) ≡ f.due) × (3 + f.due ≤ length bytes)
-      × (f.rule (take f.due (drop 3 bytes)) ≡ Accepted)
+      × (f.rule (take f.due (drop 3 bytes)) ≡ Ok tt)
   unfolding header_verdict field_verdict
   facts bytes e =
       let h = both (header_verdict f.tag f.due bytes) _ e in
@@ -92,7 +91,7 @@ module _ (f : Field) where
     where
       go : {o : Outcome} (bytes : List ℕ) → Below 256 bytes
           → (3 ≤ length bytes) × (get_or bytes 0 0 ≡ f.tag) × (number_in (take 2 (drop 1 bytes)) ≡ f.due) × (3 + f.due ≤ length bytes)
-          × (f.rule (take f.due (drop 3 bytes)) ≡ Accepted)
+          × (f.rule (take f.due (drop 3 bytes)) ≡ Ok tt)
           → next (take f.due (drop 3 bytes)) (drop (3 + f.due) bytes) ≡ o → FieldTaken f bytes next o
       go [] h k e = absurd (omega (arith, k.0))
       go (t ∷ []) h k e = absurd (omega (arith, k.0))

@@ -1,4 +1,5 @@
 -- The verdict on a field at a place, by its tests one after the other.
+use Rattle.std.specs.Prelude.{Ok, Err}
 use Prim.Native.Nat.{ℕ, ◌+◌, ◌-◌, ◌≤◌, ◌<◌}
 use mathlib.Core.Path.{◌≡◌, refl, sym, ap, ap₂, ◌∙◌}
 use mathlib.Core.Bool.{Bool, true, false}
@@ -10,9 +11,7 @@ use lib.ListN.{length, take, drop, get_or, length-drop}
 use lib.Seq.{get_or-drop, drop-drop}
 use borrow.Author.Tests.{le-leb, lt-leb, eq-eqb, ne_eqb, leb-true, leb-false}
 use Rattle.model.specs.declared.Refusal.TheVariants.{CutImage, WrongTag, WrongLength}
-use Rattle.model.specs.declared.Verdict.{Verdict}
-use Rattle.model.specs.declared.Verdict.TheVariants.{Accepted, Refused}
-use Rattle.model.specs.Refusals.{demand, ◌then◌}
+use Rattle.model.specs.Refusals.{demand, ◌then◌, Verdict}
 use Rattle.model.proofs.Verdicts.{then_accepted}
 use Rattle.image.specs.Bytes.{number_in}
 use Rattle.image.specs.Format.{Field}
@@ -35,7 +34,7 @@ module _ (tag due at : ℕ) (bytes : List ℕ) where
       let e₃ : leb (3 + due) (length (drop at bytes)) ≡ d = ap (leb (3 + due)) l ∙ pd in
       λ i. tests (sym e₀ i) (sym e₁ i) (sym e₂ i) (sym e₃ i)
 
-  pub cut-header : length bytes < at + 3 → Refused CutImage ≡ header_verdict tag due (drop at bytes)
+  pub cut-header : length bytes < at + 3 → Err CutImage ≡ header_verdict tag due (drop at bytes)
   cut-header h =
       let k : length bytes - at < 3 = omega arith in
       out false _ _ _ (lt-leb _ _ k) refl refl refl
@@ -44,20 +43,20 @@ module _ (tag due at : ℕ) (bytes : List ℕ) where
     header : leb 3 (length bytes - at) ≡ true
     header = let k : 3 ≤ length bytes - at = omega arith in le-leb _ _ k
 
-    pub wrong_tag : (get_or bytes at 0 ≡ tag → ⊥) → Refused WrongTag ≡ header_verdict tag due (drop at bytes)
+    pub wrong_tag : (get_or bytes at 0 ≡ tag → ⊥) → Err WrongTag ≡ header_verdict tag due (drop at bytes)
     wrong_tag t = out true false _ _ header (ne_eqb _ _ t) refl refl
 
     module _ (t : get_or bytes at 0 ≡ tag) where
-      pub wrong_length : (number_in (take 2 (drop (at + 1) bytes)) ≡ due → ⊥) → Refused WrongLength ≡ header_verdict tag due (drop at bytes)
+      pub wrong_length : (number_in (take 2 (drop (at + 1) bytes)) ≡ due → ⊥) → Err WrongLength ≡ header_verdict tag due (drop at bytes)
       wrong_length n = out true true false _ header (eq-eqb _ _ t) (ne_eqb _ _ n) refl
 
       module _ (n : number_in (take 2 (drop (at + 1) bytes)) ≡ due) where
-        pub cut-value : length bytes < at + 3 + due → Refused CutImage ≡ header_verdict tag due (drop at bytes)
+        pub cut-value : length bytes < at + 3 + due → Err CutImage ≡ header_verdict tag due (drop at bytes)
         cut-value e =
             let k : length bytes - at < 3 + due = omega arith in
             out true true true false header (eq-eqb _ _ t) (eq-eqb _ _ n) (lt-leb _ _ k)
 
-        pub whole-field : at + 3 + due ≤ length bytes → Accepted ≡ header_verdict tag due (drop at bytes)
+        pub whole-field : at + 3 + due ≤ length bytes → (Ok tt) ≡ header_verdict tag due (drop at bytes)
         whole-field e =
             let k : 3 + due ≤ length bytes - at = omega arith in
             out true true true true header (eq-eqb _ _ t) (eq-eqb _ _ n) (le-leb _ _ k)
@@ -69,7 +68,7 @@ unfolding field_verdict
 with_rule f bytes e p q = e ∙ ap₂ (λ (x y : Verdict). x then y) p q
 
 -- a field with any value
-pub without_rule : (f : Field) (bytes : List ℕ) → ((value : List ℕ) → f.rule value ≡ Accepted) → header_verdict f.tag f.due bytes ≡ field_verdict f bytes
+pub without_rule : (f : Field) (bytes : List ℕ) → ((value : List ℕ) → f.rule value ≡ Ok tt) → header_verdict f.tag f.due bytes ≡ field_verdict f bytes
 unfolding field_verdict
 without_rule f bytes any =
     let header = header_verdict f.tag f.due bytes in

@@ -1,4 +1,5 @@
 -- What is written is read back, only what the writer can produce is read, and how long an image is.
+use Rattle.std.specs.Prelude.{Ok}
 use Prim.Native.Nat.{ℕ, ◌+◌}
 use mathlib.Core.Path.{◌≡◌, refl, sym, ap, ap₂, ◌∙◌}
 use mathlib.Core.Bool.{Bool, true}
@@ -9,10 +10,8 @@ use lib.ListN.{length, length-append}
 use borrow.Author.Tests.{le-leb, eqb-true}
 use Rattle.model.specs.declared.Machine.{Machine}
 use Rattle.model.specs.declared.Refusal.TheVariants.{WrongVersion, BadFlag, BadWordCount, ShortMemory, TrailingBytes}
-use Rattle.model.specs.declared.Verdict.{Verdict}
-use Rattle.model.specs.declared.Verdict.TheVariants.{Accepted}
 use Rattle.model.specs.Packed.{flag_numbers}
-use Rattle.model.specs.Refusals.{demand, ◌then◌, most_words}
+use Rattle.model.specs.Refusals.{demand, ◌then◌, most_words, Verdict}
 use Rattle.model.proofs.Verdicts.{then_assoc, demanded}
 use Rattle.image.specs.Bytes.{bytes_of, number_in, word_bytes, words_in, Below}
 use Rattle.image.specs.Format.{field_bytes, is_version, count_formed, version_field, registers_field, flags_field, count_field, end_field, fields_for, memory_fields, image_of}
@@ -41,12 +40,12 @@ image-read version machine memory rest room eight registers-below few memory-bel
     let o : Outcome = loaded version machine memory in
     let w : Verdict = on_count then on_room then on_rest in
     field-goes version_field (version ∷ []) _ refl (lit< tt) _ _ on_version w o (simp append_assoc) (ap (λ (v : ℕ). demand (is_version v) WrongVersion) e_v)
-    (field-goes registers_field (word_bytes machine.regs) _ lr (lit< tt) _ _ Accepted w o refl refl
-    (field-goes flags_field (flag_numbers machine.flags) _ refl (lit< tt) _ _ Accepted w o refl (ap (λ (t : Bool). demand t BadFlag) (flags-formed machine.flags))
+    (field-goes registers_field (word_bytes machine.regs) _ lr (lit< tt) _ _ (Ok tt) w o refl refl
+    (field-goes flags_field (flag_numbers machine.flags) _ refl (lit< tt) _ _ (Ok tt) w o refl (ap (λ (t : Bool). demand t BadFlag) (flags-formed machine.flags))
     (field-goes (count_field room) (bytes_of 4 (length memory)) _ (length-bytes 4 (length memory)) (lit< tt) _ _ (on_count then on_room) on_rest o refl
     (ap (λ (n : ℕ). demand (count_formed n) BadWordCount then demand (leb n room) ShortMemory) e_m)
     (memory-goes (fields_for M) M _ memory (field_bytes end_field [] ++ rest) _ _ (ap (λ (n : ℕ). memory_fields (fields_for n) memory ++ (field_bytes end_field [] ++ rest)) (sym e_m)) (sym e_m) (fields-enough M) memory-below
-    (field-goes end_field [] rest refl (lit< tt) _ _ Accepted on_rest o refl refl
+    (field-goes end_field [] rest refl (lit< tt) _ _ (Ok tt) on_rest o refl refl
     (ap₂ (λ (v : ℕ) (m : Machine). on_rest ▷ loaded v m memory) e_v (machine-back machine eight registers-below))))
     ∙ ap (λ (v : Verdict). v ▷ o) (then_assoc on_count on_room on_rest))))
 

@@ -1,4 +1,7 @@
 -- What is loaded has a version that the writer takes, and is a memory that a run takes.
+use Rattle.model.specs.declared.Refusal.{Refusal}
+use Rattle.image.specs.declared.LoadedImage.{LoadedImage}
+use Rattle.std.specs.Prelude.{Ok, Result}
 use Prim.Native.Nat.{ℕ, zero, suc, ◌+◌, ◌-◌, ◌*◌, ◌≤◌, min}
 use mathlib.Core.Path.{◌≡◌, refl, sym, ap, ap₂, ◌∙◌}
 use mathlib.Core.Bool.{Bool, true, false, ◌||◌, and-eq-true_iff, true≢false}
@@ -9,17 +12,15 @@ use lib.ListN.{length, take, drop, length-append}
 use lib.Seq.{take_at}
 use borrow.Author.Tests.{leb-true, eqb-true}
 use Rattle.model.specs.declared.Machine.{Machine}
-use Rattle.model.specs.declared.Verdict.TheVariants.{Accepted}
 use Rattle.model.specs.declared.Refusal.TheVariants.{WrongVersion, BadWordCount, TrailingBytes}
 use Rattle.model.specs.Words.{overlay}
 use Rattle.model.specs.Refusals.{most_words, demand}
 use Rattle.model.proofs.Verdicts.{demanded, both}
-use Rattle.image.specs.declared.ReadAnswer.{ReadAnswer}
 use Rattle.image.specs.declared.ReadResult.{ReadResult}
 use Rattle.image.specs.Bytes.{number_in, words_in}
 use Rattle.image.specs.Format.{Field, version_field, registers_field, flags_field, count_field, words_field, end_field, words_per_field, fields_for, is_version, count_formed}
 use Rattle.image.specs.Reading.{Outcome, loaded, refused, field_verdict, read_field, read_memory, read_of}
-use Rattle.image.specs.Calls.{read_result, outcome_words, read_returned, read_words, Reads}
+use Rattle.image.specs.Calls.{read_result, outcome_words, read_count, read_version, read_returned, read_words, Reads}
 use Rattle.image.specs.Theorems.{LoadedFits}
 use Rattle.image.proofs.Bytes.{length-words}
 use Rattle.image.proofs.Outcomes.{went_on}
@@ -37,7 +38,7 @@ version-small version e = go (eqb version 1) refl (eqb version 2) refl e
 module _ {version : ℕ} {machine : Machine} {words : List ℕ} where
   -- past one field, and past the fields of so many words
   past : (f : Field) (next : List ℕ → List ℕ → Outcome) (bytes : List ℕ) → read_field f bytes next ≡ loaded version machine words
-      → (f.rule (take f.due (drop 3 bytes)) ≡ Accepted) × (next (take f.due (drop 3 bytes)) (drop (3 + f.due) bytes) ≡ loaded version machine words)
+      → (f.rule (take f.due (drop 3 bytes)) ≡ Ok tt) × (next (take f.due (drop 3 bytes)) (drop (3 + f.due) bytes) ≡ loaded version machine words)
   unfolding read_field
   past f next bytes e = let w = went_on (field_verdict f bytes) _ e in ((facts f bytes w.0).4, w.1)
 
@@ -87,18 +88,18 @@ pub record Loads (bytes memory memory' : List ℕ) (r : ReadResult) (count versi
   pub whole : memory' ≡ overlay words memory
 
 module _ {bytes memory memory' : List ℕ} {r : ReadResult} {count version : ℕ} where
-  pub loads : Reads bytes memory memory' r → r.answer ≡ ReadAnswer.Loaded count version → Loads bytes memory memory' r count version
+  pub loads : Reads bytes memory memory' r → r.answer ≡ Ok (record { words = count; version = version }) → Loads bytes memory memory' r count version
   unfolding read_returned read_words
   loads h e = go (read_of bytes (length memory)) refl
     where
       go : (o : Outcome) → read_of bytes (length memory) ≡ o → Loads bytes memory memory' r count version
       go (loaded version₀ machine words) is =
           let k : r ≡ read_result (loaded version₀ machine words) = h.result ∙ ap read_result is in
-          let v : version₀ ≡ version = cc in
+          let v : version₀ ≡ version = sym (ap (λ (x : ReadResult). read_version x.answer) k) ∙ ap read_version e in
           record {
             words = words;
             is = is ∙ ap₂ (λ (n : ℕ) (x : ReadResult). loaded n x.machine words) v (sym k);
-            long = cc;
+            long = sym (ap (λ (x : ReadResult). read_count x.answer) k) ∙ ap read_count e;
             whole = h.words ∙ ap (λ (o : Outcome). outcome_words o memory) is;
           }
       go (refused why) is =

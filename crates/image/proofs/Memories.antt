@@ -1,4 +1,5 @@
 -- The fields of words: what is written is read back, and what is read was written so.
+use Rattle.std.specs.Prelude.{Ok}
 use Prim.Native.Nat.{ℕ, zero, suc, ◌+◌, ◌-◌, ◌*◌, ◌^◌, ◌≤◌, ◌<◌, min}
 use mathlib.Core.Path.{◌≡◌, refl, sym, ap, ap₂, ◌∙◌}
 use mathlib.Core.List.{List, [], ◌++◌, append_assoc, append-nil}
@@ -7,7 +8,6 @@ use native.Mathlib.Omega.{arith}
 use lib.ListN.{length, take, drop, length-append, length-take, length-drop, take-append-drop, drop_of_length-le}
 use lib.Seq.{take_at, drop_at, take_all, length-take-le, drop-drop}
 use Rattle.model.specs.declared.Machine.{Machine}
-use Rattle.model.specs.declared.Verdict.TheVariants.{Accepted}
 use Rattle.image.specs.Bytes.{word_bytes, words_in, Below}
 use Rattle.image.specs.Format.{words_field, words_per_field, field_bytes, fields_for, span_of, memory_fields}
 use Rattle.image.specs.Reading.{Outcome, loaded, read_memory}
@@ -116,7 +116,7 @@ memory-goes (suc n) words bytes memory rest next o is l h k e =
     let value : List ℕ = word_bytes (take words_per_field memory) in
     let more : List ℕ = drop words_per_field memory in
     let count : ℕ = min words_per_field words in
-    field-goes (words_field count) value (memory_fields n more ++ rest) (length-first-bytes words memory l) (omega arith) bytes _ Accepted Accepted o
+    field-goes (words_field count) value (memory_fields n more ++ rest) (length-first-bytes words memory l) (omega arith) bytes _ (Ok tt) (Ok tt) o
     (is ∙ append_assoc (field_bytes (words_field count) value) (memory_fields n more) rest) refl
     (memory-goes n (words - words_per_field) (memory_fields n more ++ rest) more rest (λ (later end : List ℕ). next (words_in count value ++ later) end) o refl
     (length_more words memory l) (omega arith) (below-drop _ words_per_field memory k)

@@ -1,19 +1,18 @@
 -- Going on after a verdict.
+use Rattle.std.specs.Prelude.{Ok, Err}
 use Prim.Native.Nat.{ℕ}
 use mathlib.Core.Path.{◌≡◌, refl}
 use mathlib.Core.List.{List}
 use Rattle.model.specs.declared.Machine.{Machine}
-use Rattle.model.specs.declared.Verdict.{Verdict}
-use Rattle.model.specs.declared.Verdict.TheVariants.{Accepted, Refused}
-use Rattle.model.specs.Refusals.{◌then◌}
+use Rattle.model.specs.Refusals.{◌then◌, Verdict}
 use Rattle.image.specs.Reading.{Outcome, loaded, ◌▷◌}
 
 pub went_on : {version : ℕ} {machine : Machine} {memory : List ℕ} (v : Verdict) (o : Outcome)
-    → (v ▷ o) ≡ loaded version machine memory → (v ≡ Accepted) × (o ≡ loaded version machine memory)
-went_on Accepted o e = (refl, e)
-went_on (Refused why) o e = (cc, cc)
+    → (v ▷ o) ≡ loaded version machine memory → (v ≡ Ok tt) × (o ≡ loaded version machine memory)
+went_on (Ok u) o e = (refl, e)
+went_on (Err why) o e = (cc, cc)
 
 -- what follows a verdict is a verdict and an outcome: the two verdicts are one
 pub verdicts-join : {o : Outcome} (v w : Verdict) (o' : Outcome) → o ≡ (w ▷ o') → (v ▷ o) ≡ ((v then w) ▷ o')
-verdicts-join Accepted w o' e = e
-verdicts-join (Refused why) w o' e = refl
+verdicts-join (Ok u) w o' e = e
+verdicts-join (Err why) w o' e = refl

@@ -1,16 +1,14 @@
 -- The writer and the reader as calls: what is refused (1, 2 and 7 to 15), what is answered, and every lent byte and word
 -- afterwards. Document 01, "Image" and "Why a call is turned down"; CR 1.
-use Rattle.std.specs.Prelude.{ℕ, ◌≡◌, List, leb, length, replicate}
+use Rattle.model.specs.declared.Refusal.{Refusal}
+use Rattle.image.specs.declared.LoadedImage.{LoadedImage}
+use Rattle.std.specs.Prelude.{ℕ, ◌≡◌, List, leb, length, replicate, Ok, Err, Result}
 use Rattle.model.specs.declared.Machine.{Machine}
 use Rattle.model.specs.declared.Refusal.TheVariants.{ShortOutput, WrongVersion}
-use Rattle.model.specs.declared.Verdict.{Verdict}
-use Rattle.model.specs.declared.Verdict.TheVariants.{Accepted, Refused}
 use Rattle.model.specs.Words.{overlay}
 use Rattle.model.specs.Interpreter.{machine_with}
 use Rattle.model.specs.Packed.{no_flags}
-use Rattle.model.specs.Refusals.{refusal_number, verdict_number, left_by, demand, ◌then◌, memory_fits}
-use Rattle.image.specs.declared.WriteAnswer.{WriteAnswer}
-use Rattle.image.specs.declared.ReadAnswer.{ReadAnswer}
+use Rattle.model.specs.Refusals.{refusal_number, verdict_number, left_by, demand, ◌then◌, memory_fits, Verdict}
 use Rattle.image.specs.declared.ReadResult.{ReadResult}
 use Rattle.image.specs.Format.{is_version, image_of}
 use Rattle.image.specs.Reading.{Outcome, loaded, refused, read_of}
@@ -22,26 +20,26 @@ unfoldable pub write_verdict : (memory : List ℕ) (version : ℕ) (image out : 
 write_verdict memory version image out =
     memory_fits memory then demand (leb (length image) (length out)) ShortOutput then demand (is_version version) WrongVersion
 
-abbrev pub write_result : Verdict → (image : List ℕ) → WriteAnswer
-write_result Accepted image = WriteAnswer.Written (length image)
-write_result (Refused why) image = WriteAnswer.Refused why
+abbrev pub write_result : Verdict → (image : List ℕ) → Result ℕ Refusal
+write_result (Ok u) image = Ok (length image)
+write_result (Err why) image = Err why
 
 -- document 01's number of an answer, 0 for one that is carried out
-abbrev pub write_number : WriteAnswer → ℕ
-write_number (WriteAnswer.Written size) = 0
-write_number (WriteAnswer.Refused why) = refusal_number why
+abbrev pub write_number : Result ℕ Refusal → ℕ
+write_number (Ok size) = 0
+write_number (Err why) = refusal_number why
 
 -- how many bytes were written: none by a refused write
 abbrev pub verdict_size : Verdict → (image : List ℕ) → ℕ
-verdict_size Accepted image = length image
-verdict_size (Refused why) image = 0
+verdict_size (Ok u) image = length image
+verdict_size (Err why) image = 0
 
-abbrev pub write_size : WriteAnswer → ℕ
-write_size (WriteAnswer.Written size) = size
-write_size (WriteAnswer.Refused why) = 0
+abbrev pub write_size : Result ℕ Refusal → ℕ
+write_size (Ok size) = size
+write_size (Err why) = 0
 
 -- what a write returns, and the bytes that it leaves
-unfoldable pub write_returned : (memory : List ℕ) → Machine → (version : ℕ) → (out : List ℕ) → WriteAnswer
+unfoldable pub write_returned : (memory : List ℕ) → Machine → (version : ℕ) → (out : List ℕ) → Result ℕ Refusal
 write_returned memory machine version out =
     let image = image_of version machine memory in
     write_result (write_verdict memory version image out) image
@@ -51,7 +49,7 @@ write_bytes memory machine version out =
     let image = image_of version machine memory in
     left_by (write_verdict memory version image out) (overlay image out) out
 
-pub record Writes (memory : List ℕ) (machine : Machine) (version : ℕ) (out out' : List ℕ) (r : WriteAnswer) : Type 0 where
+pub record Writes (memory : List ℕ) (machine : Machine) (version : ℕ) (out out' : List ℕ) (r : Result ℕ Refusal) : Type 0 where
   pub result : r ≡ write_returned memory machine version out
   pub bytes : out' ≡ write_bytes memory machine version out
   pub number : write_number r ≡ verdict_number (write_verdict memory version (image_of version machine memory) out)
@@ -64,8 +62,8 @@ abbrev pub cleared_machine : Machine
 cleared_machine = machine_with (replicate 8 0) no_flags
 
 abbrev pub read_result : Outcome → ReadResult
-read_result (loaded version machine words) = record { answer = ReadAnswer.Loaded (length words) version; machine = machine }
-read_result (refused why) = record { answer = ReadAnswer.Refused why; machine = cleared_machine }
+read_result (loaded version machine words) = record { answer = Ok (record { words = length words; version = version }); machine = machine }
+read_result (refused why) = record { answer = Err why; machine = cleared_machine }
 
 abbrev pub outcome_words : Outcome → (memory : List ℕ) → List ℕ
 outcome_words (loaded version machine words) memory = overlay words memory
@@ -76,27 +74,27 @@ abbrev pub outcome_number : Outcome → ℕ
 outcome_number (loaded version machine words) = 0
 outcome_number (refused why) = refusal_number why
 
-abbrev pub read_number : ReadAnswer → ℕ
-read_number (ReadAnswer.Loaded words version) = 0
-read_number (ReadAnswer.Refused why) = refusal_number why
+abbrev pub read_number : Result LoadedImage Refusal → ℕ
+read_number (Ok l) = 0
+read_number (Err why) = refusal_number why
 
 -- how many words were loaded: none by a refused read
 abbrev pub outcome_count : Outcome → ℕ
 outcome_count (loaded version machine words) = length words
 outcome_count (refused why) = 0
 
-abbrev pub read_count : ReadAnswer → ℕ
-read_count (ReadAnswer.Loaded words version) = words
-read_count (ReadAnswer.Refused why) = 0
+abbrev pub read_count : Result LoadedImage Refusal → ℕ
+read_count (Ok l) = l.words
+read_count (Err why) = 0
 
 -- which version was read: 0 by a refused read
 abbrev pub outcome_version : Outcome → ℕ
 outcome_version (loaded version machine words) = version
 outcome_version (refused why) = 0
 
-abbrev pub read_version : ReadAnswer → ℕ
-read_version (ReadAnswer.Loaded words version) = version
-read_version (ReadAnswer.Refused why) = 0
+abbrev pub read_version : Result LoadedImage Refusal → ℕ
+read_version (Ok l) = l.version
+read_version (Err why) = 0
 
 -- what a read returns, and the memory that it leaves
 unfoldable pub read_returned : (bytes memory : List ℕ) → ReadResult

@@ -1,12 +1,10 @@
 -- What an image is: its fields, what their values must be (11 to 14), and its bytes. Document 01, "Image" and "Why a call is
 -- turned down"; CR 1.
-use Rattle.std.specs.Prelude.{ℕ, zero, suc, ◌+◌, ◌-◌, ◌*◌, ◌/◌, Bool, ◌&&◌, ◌||◌, List, [], ◌∷◌, ◌++◌, eqb, leb, length, get_or, take, drop}
+use Rattle.std.specs.Prelude.{ℕ, zero, suc, ◌+◌, ◌-◌, ◌*◌, ◌/◌, Bool, ◌&&◌, ◌||◌, List, [], ◌∷◌, ◌++◌, eqb, leb, length, get_or, take, drop, Ok}
 use Rattle.model.specs.declared.Machine.{Machine}
 use Rattle.model.specs.declared.Refusal.TheVariants.{WrongVersion, BadFlag, BadWordCount, ShortMemory}
-use Rattle.model.specs.declared.Verdict.{Verdict}
-use Rattle.model.specs.declared.Verdict.TheVariants.{Accepted}
 use Rattle.model.specs.Packed.{flag_numbers}
-use Rattle.model.specs.Refusals.{demand, ◌then◌, most_words}
+use Rattle.model.specs.Refusals.{demand, ◌then◌, most_words, Verdict}
 use Rattle.image.specs.Bytes.{bytes_of, number_in, word_bytes}
 
 -- ---- a field
@@ -39,7 +37,7 @@ abbrev pub version_field : Field
 version_field = record { tag = 0x01; due = 1; rule = λ value. demand (is_version (number_in value)) WrongVersion }
 
 abbrev pub registers_field : Field
-registers_field = record { tag = 0x02; due = 32; rule = λ value. Accepted }
+registers_field = record { tag = 0x02; due = 32; rule = λ value. Ok tt }
 
 abbrev pub flags_field : Field
 flags_field = record { tag = 0x03; due = 4; rule = λ value. demand (flags_formed value) BadFlag }
@@ -55,10 +53,10 @@ count_field room =
 
 -- a field of so many words
 abbrev pub words_field : ℕ → Field
-words_field words = record { tag = 0x05; due = 4 * words; rule = λ value. Accepted }
+words_field words = record { tag = 0x05; due = 4 * words; rule = λ value. Ok tt }
 
 abbrev pub end_field : Field
-end_field = record { tag = 0xFF; due = 0; rule = λ value. Accepted }
+end_field = record { tag = 0xFF; due = 0; rule = λ value. Ok tt }
 
 -- ---- the words of a memory
 

@@ -1,12 +1,10 @@
 -- Reading an image: the fields are taken one by one, and the first that is not in order is the answer (8 to 15). Document 01,
 -- "Image" and "Why a call is turned down".
-use Rattle.std.specs.Prelude.{ℕ, zero, suc, ◌+◌, ◌-◌, min, List, [], ◌++◌, eqb, leb, length, get_or, take, drop}
+use Rattle.std.specs.Prelude.{ℕ, zero, suc, ◌+◌, ◌-◌, min, List, [], ◌++◌, eqb, leb, length, get_or, take, drop, Ok, Err}
 use Rattle.model.specs.declared.Machine.{Machine}
 use Rattle.model.specs.declared.Refusal.{Refusal}
 use Rattle.model.specs.declared.Refusal.TheVariants.{CutImage, WrongTag, WrongLength, TrailingBytes}
-use Rattle.model.specs.declared.Verdict.{Verdict}
-use Rattle.model.specs.declared.Verdict.TheVariants.{Accepted, Refused}
-use Rattle.model.specs.Refusals.{demand, ◌then◌}
+use Rattle.model.specs.Refusals.{demand, ◌then◌, Verdict}
 use Rattle.image.specs.Bytes.{number_in, words_in}
 use Rattle.image.specs.Format.{Field, version_field, registers_field, flags_field, count_field, words_field, end_field, words_per_field, fields_for}
 
@@ -18,8 +16,8 @@ pub data Outcome : Type 0 where
 infixr 20 ◌▷◌
 -- go on unless there is a refusal
 abbrev pub ◌▷◌ : Verdict → Outcome → Outcome
-Accepted ▷ outcome = outcome
-Refused why ▷ outcome = refused why
+Ok u ▷ outcome = outcome
+Err why ▷ outcome = refused why
 
 -- whether bytes start with a field of a tag and of the length due: header cut, tag, length, value cut
 unfoldable pub header_verdict : (tag due : ℕ) → List ℕ → Verdict

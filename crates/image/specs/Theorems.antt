@@ -1,12 +1,12 @@
 -- What holds of images and of the two calls: an image loads into the machine it was written from, and only what the writer can
 -- produce is accepted (demand 2), in either version (CR 1). Document 01, "Image" and "Why a call is turned down".
-use Rattle.std.specs.Prelude.{ℕ, ◌+◌, ◌*◌, ◌^◌, ◌≤◌, ◌<◌, ◌≡◌, true, List, ◌++◌, eqb, leb, length, take}
+use Rattle.model.specs.declared.Refusal.{Refusal}
+use Rattle.image.specs.declared.LoadedImage.{LoadedImage}
+use Rattle.std.specs.Prelude.{ℕ, ◌+◌, ◌*◌, ◌^◌, ◌≤◌, ◌<◌, ◌≡◌, true, List, ◌++◌, eqb, leb, length, take, Ok, Result}
 use Rattle.model.specs.declared.Machine.{Machine}
 use Rattle.model.specs.declared.Refusal.TheVariants.{CutImage, WrongVersion, BadWordCount, ShortMemory, TrailingBytes}
 use Rattle.model.specs.Words.{overlay}
 use Rattle.model.specs.Refusals.{demand, ◌then◌, most_words}
-use Rattle.image.specs.declared.WriteAnswer.{WriteAnswer}
-use Rattle.image.specs.declared.ReadAnswer.{ReadAnswer}
 use Rattle.image.specs.declared.ReadResult.{ReadResult}
 use Rattle.image.specs.Bytes.{Below}
 use Rattle.image.specs.Format.{is_version, count_formed, words_per_field, fields_for, image_of}
@@ -85,18 +85,18 @@ abbrev pub ReadBack : Type 0
 ReadBack =
     (memory : List ℕ) (machine : Machine) (version : ℕ) (out out' : List ℕ) (n : ℕ) (room room' : List ℕ) (r : ReadResult)
     → length machine.regs ≡ 8 → Below (2 ^ 32) machine.regs → Below (2 ^ 32) memory
-    → Writes memory machine version out out' (WriteAnswer.Written n)
+    → Writes memory machine version out out' (Ok n)
     → length memory ≤ length room
     → Reads (take n out') room room' r
-    → (r ≡ record { answer = ReadAnswer.Loaded (length memory) version; machine = machine }) × (room' ≡ overlay memory room)
+    → (r ≡ record { answer = Ok (record { words = length memory; version = version }); machine = machine }) × (room' ≡ overlay memory room)
 
 -- what the reader loaded, the writer writes as the bytes that were read: it can produce all that is accepted
 abbrev pub WriteBack : Type 0
 WriteBack =
-    (bytes room room' : List ℕ) (r : ReadResult) (n version : ℕ) (out out' : List ℕ) (w : WriteAnswer)
+    (bytes room room' : List ℕ) (r : ReadResult) (n version : ℕ) (out out' : List ℕ) (w : Result ℕ Refusal)
     → Below 256 bytes
     → Reads bytes room room' r
-    → r.answer ≡ ReadAnswer.Loaded n version
+    → r.answer ≡ Ok (record { words = n; version = version })
     → length bytes ≤ length out
     → Writes (take n room') r.machine version out out' w
-    → (w ≡ WriteAnswer.Written (length bytes)) × (out' ≡ overlay bytes out)
+    → (w ≡ Ok (length bytes)) × (out' ≡ overlay bytes out)

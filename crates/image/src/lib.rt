@@ -8,23 +8,17 @@ use model::{Machine, Refusal};
 
 pub const WORDS_PER_FIELD: usize = 1_024;
 
-// Written: how many bytes the image has.
-#[derive(Clone, Copy)]
-pub enum WriteAnswer {
-    Written(usize),
-    Refused(Refusal),
+// How many words an image has that was loaded, and its version.
+#[derive(Clone, Copy, Debug, PartialEq, Eq)]
+pub struct LoadedImage {
+    pub words: u32,
+    pub version: u32,
 }
 
-// Loaded: how many words the image has, and its version.
-#[derive(Clone, Copy)]
-pub enum ReadAnswer {
-    Loaded(u32, u32),
-    Refused(Refusal),
-}
-
+// answer: what was loaded, or why nothing was. machine: of a read that is turned down, registers 0 and flags false.
 #[derive(Clone, Copy)]
 pub struct ReadResult {
-    pub answer: ReadAnswer,
+    pub answer: Result<LoadedImage, Refusal>,
     pub machine: Machine,
 }
 

@@ -7,8 +7,7 @@ use lib.Dec.{leb}
 use lib.ListN.{take, drop, get_or}
 use lib.Seq.{get_or-drop, drop-drop}
 use Rattle.model.specs.declared.Refusal.TheVariants.{WrongVersion, BadFlag, BadWordCount, ShortMemory}
-use Rattle.model.specs.declared.Verdict.{Verdict}
-use Rattle.model.specs.Refusals.{demand, ◌then◌}
+use Rattle.model.specs.Refusals.{demand, ◌then◌, Verdict}
 use Rattle.image.specs.Bytes.{number_in}
 use Rattle.image.specs.Format.{version_field, registers_field, flags_field, count_field, is_version, flags_formed, count_formed}
 use Rattle.image.specs.Reading.{header_verdict, field_verdict}
@@ -35,10 +34,11 @@ count-checked bytes n room e =
     (e ∙ ap (λ (l : List ℕ). number_in (take 4 l)) (sym (drop-drop 3 46 bytes)))
 
 -- the four fields of the head
-pub head_of : (bytes : List ℕ) (room : ℕ) {version registers flags count v₂ v₃ v : Verdict}
-    → v ≡ (version then v₂) → v₂ ≡ (registers then v₃) → v₃ ≡ (flags then count)
+pub head_of : (bytes : List ℕ) (room : ℕ) {version registers flags count : Verdict}
     → version ≡ field_verdict version_field bytes → registers ≡ header_verdict 2 32 (drop 4 bytes)
-    → flags ≡ field_verdict flags_field (drop 39 bytes) → count ≡ field_verdict (count_field room) (drop 46 bytes) → v ≡ head_verdict bytes room
+    → flags ≡ field_verdict flags_field (drop 39 bytes) → count ≡ field_verdict (count_field room) (drop 46 bytes)
+    → (version then registers then flags then count) ≡ head_verdict bytes room
 unfolding head_verdict
-head_of bytes room e₁ e₂ e₃ p q r s =
-    e₁ ∙ ap₂ (λ (x y : Verdict). x then y) p (e₂ ∙ ap₂ (λ (x y : Verdict). x then y) (q ∙ without_rule registers_field (drop 4 bytes) (λ value. refl)) (e₃ ∙ ap₂ (λ (x y : Verdict). x then y) r s))
+head_of bytes room p q r s =
+    let both = λ (x y : Verdict). x then y in
+    ap₂ both p (ap₂ both (q ∙ without_rule registers_field (drop 4 bytes) (λ value. refl)) (ap₂ both r s))

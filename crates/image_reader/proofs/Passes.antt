@@ -8,8 +8,7 @@ use lib.ListN.{length, take, drop, length-append}
 use lib.Seq.{drop-drop}
 use Rattle.model.specs.declared.Machine.{Machine}
 use Rattle.model.specs.declared.Refusal.TheVariants.{TrailingBytes}
-use Rattle.model.specs.declared.Verdict.{Verdict}
-use Rattle.model.specs.Refusals.{demand, ◌then◌}
+use Rattle.model.specs.Refusals.{demand, ◌then◌, Verdict}
 use Rattle.model.proofs.Verdicts.{then_assoc}
 use Rattle.image.specs.Bytes.{number_in, words_in}
 use Rattle.image.specs.Format.{Field, version_field, registers_field, flags_field, count_field, words_field, end_field, words_per_field, fields_for, span_of}

@@ -1,4 +1,5 @@
 -- A turn of each pass over the fields of words.
+use Rattle.std.specs.Prelude.{Ok, Err}
 use Prim.Native.Nat.{ℕ, suc, ◌+◌, ◌-◌, ◌*◌, ◌<◌, min}
 use mathlib.Core.Path.{◌≡◌, refl, sym, ap, ap₂, ◌∙◌}
 use mathlib.Core.Bool.{Bool}
@@ -10,9 +11,7 @@ use lib.ListN.{length, drop}
 use lib.Seq.{drop-drop}
 use Rattle.model.specs.declared.Refusal.{Refusal}
 use Rattle.model.specs.declared.Refusal.TheVariants.{TrailingBytes}
-use Rattle.model.specs.declared.Verdict.{Verdict}
-use Rattle.model.specs.declared.Verdict.TheVariants.{Accepted, Refused}
-use Rattle.model.specs.Refusals.{demand, ◌then◌}
+use Rattle.model.specs.Refusals.{demand, ◌then◌, Verdict}
 use Rattle.model.proofs.Verdicts.{then_assoc}
 use Rattle.image.specs.Bytes.{words_in}
 use Rattle.image.specs.Format.{words_field, end_field, words_per_field, fields_for, span_of}
@@ -48,10 +47,10 @@ module _ (left at count : ℕ) (bytes : List ℕ) (h : 0 < left) (e : count ≡ 
       → (v then tail_verdict (left - count) (at + 3 + 4 * count) bytes) ≡ whole
   tail_by f e = ap (λ (v : Verdict). v then tail_verdict (left - count) (at + 3 + 4 * count) bytes) f ∙ sym tail_step ∙ e
 
-  pub tail_refused : {why : Refusal} {v whole : Verdict} → v ≡ Refused why → v ≡ header_verdict 5 (4 * count) (drop at bytes) → tail_verdict left at bytes ≡ whole → Refused why ≡ whole
+  pub tail_refused : {why : Refusal} {v whole : Verdict} → v ≡ Err why → v ≡ header_verdict 5 (4 * count) (drop at bytes) → tail_verdict left at bytes ≡ whole → Err why ≡ whole
   tail_refused q f e = tail_by (sym q ∙ f) e
 
-  pub tail_goes : {v whole : Verdict} → v ≡ Accepted → v ≡ header_verdict 5 (4 * count) (drop at bytes) → tail_verdict left at bytes ≡ whole
+  pub tail_goes : {v whole : Verdict} → v ≡ Ok tt → v ≡ header_verdict 5 (4 * count) (drop at bytes) → tail_verdict left at bytes ≡ whole
       → tail_verdict (left - count) (at + 3 + 4 * count) bytes ≡ whole
   tail_goes q f e = tail_by (sym q ∙ f) e
 

@@ -1,11 +1,9 @@
 -- Where things lie in an image, as the reader's two passes work it out; `proofs/Passes` shows that this is `read_of`. Document 01,
 -- "Image".
-use Rattle.std.specs.Prelude.{ℕ, zero, suc, ◌+◌, ◌-◌, ◌*◌, ◌<◌, min, ◌≡◌, List, [], ◌++◌, eqb, length, get_or, take, drop}
+use Rattle.std.specs.Prelude.{ℕ, zero, suc, ◌+◌, ◌-◌, ◌*◌, ◌<◌, min, ◌≡◌, List, [], ◌++◌, eqb, length, get_or, take, drop, Ok}
 use Rattle.model.specs.declared.Machine.{Machine}
 use Rattle.model.specs.declared.Refusal.TheVariants.{TrailingBytes}
-use Rattle.model.specs.declared.Verdict.{Verdict}
-use Rattle.model.specs.declared.Verdict.TheVariants.{Accepted}
-use Rattle.model.specs.Refusals.{demand, ◌then◌}
+use Rattle.model.specs.Refusals.{demand, ◌then◌, Verdict}
 use Rattle.image.specs.Bytes.{number_in, words_in}
 use Rattle.image.specs.Format.{version_field, registers_field, flags_field, count_field, words_field, end_field, words_per_field, fields_for, span_of}
 use Rattle.image.specs.Reading.{field_verdict, machine_from}
@@ -54,7 +52,7 @@ head_verdict bytes room =
     then field_verdict (count_field room) (drop 46 bytes)
 
 unfoldable pub memory_verdict : (fields words : ℕ) → List ℕ → Verdict
-memory_verdict zero words bytes = Accepted
+memory_verdict zero words bytes = Ok tt
 memory_verdict (suc n) words bytes =
     field_verdict (words_field (min words_per_field words)) bytes
     then memory_verdict n (words - words_per_field) (drop (3 + 4 * min words_per_field words) bytes)

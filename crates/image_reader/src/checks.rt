@@ -7,28 +7,28 @@ ghost use Rattle.image_reader.specs.Passes.{image_version, image_count, head_ver
 
 use super::bytes::{byte_at, pair_at};
 use image::{is_version, words_in_field};
-use model::{Refusal, Verdict};
-use refusals::{MOST_WORDS, demand, then};
+use model::Refusal;
+use refusals::{MOST_WORDS, demand};
 
 // A field from a place on, but for its value: header cut, tag, length, value cut.
-fn header_verdict(bytes: &[u8], at: usize, tag: u32, due: u32) -> Verdict
+fn header_verdict(bytes: &[u8], at: usize, tag: u32, due: u32) -> Result<(), Refusal>
     requires { at + 3 + due < 2 ^ 64 }
     ensures { result ≡ header_verdict tag due (drop at bytes.now) }
 {
     let value = at + 3;
     if bytes.len() < value {
-        return Verdict::Refused(Refusal::CutImage);
+        return Err(Refusal::CutImage);
     }
     if byte_at(bytes, at) != tag {
-        return Verdict::Refused(Refusal::WrongTag);
+        return Err(Refusal::WrongTag);
     }
     if pair_at(bytes, at + 1) != due {
-        return Verdict::Refused(Refusal::WrongLength);
+        return Err(Refusal::WrongLength);
     }
     if bytes.len() < value + due as usize {
-        return Verdict::Refused(Refusal::CutImage);
+        return Err(Refusal::CutImage);
     }
-    Verdict::Accepted
+    Ok(())
 }
 
 pub fn image_version(bytes: &[u8]) -> u32
@@ -37,24 +37,23 @@ pub fn image_version(bytes: &[u8]) -> u32
     byte_at(bytes, 3)
 }
 
-fn version_verdict(bytes: &[u8]) -> Verdict
+fn version_verdict(bytes: &[u8]) -> Result<(), Refusal>
     ensures { result ≡ field_verdict version_field bytes.now }
 {
-    let header = header_verdict(bytes, 0, 1, 1);
-    let known = is_version(image_version(bytes));
-    then(header, demand(known, Refusal::WrongVersion))
+    header_verdict(bytes, 0, 1, 1)?;
+    demand(is_version(image_version(bytes)), Refusal::WrongVersion)
 }
 
-fn flags_verdict(bytes: &[u8]) -> Verdict
+fn flags_verdict(bytes: &[u8]) -> Result<(), Refusal>
     ensures { result ≡ field_verdict flags_field (drop 39 bytes.now) }
 {
-    let header = header_verdict(bytes, 39, 3, 4);
+    header_verdict(bytes, 39, 3, 4)?;
     let c = byte_at(bytes, 42);
     let v = byte_at(bytes, 43);
     let n = byte_at(bytes, 44);
     let z = byte_at(bytes, 45);
     let known = (c <= 1) & (v <= 1) & (n <= 1) & (z <= 1);
-    then(header, demand(known, Refusal::BadFlag))
+    demand(known, Refusal::BadFlag)
 }
 
 pub fn word_count(bytes: &[u8]) -> u32
@@ -63,33 +62,28 @@ pub fn word_count(bytes: &[u8]) -> u32
     pair_at(bytes, 49) + 65_536 * pair_at(bytes, 51)
 }
 
-fn count_verdict(bytes: &[u8], room: usize) -> Verdict
+fn count_verdict(bytes: &[u8], room: usize) -> Result<(), Refusal>
     ensures { result ≡ field_verdict (count_field room) (drop 46 bytes.now) }
 {
-    let header = header_verdict(bytes, 46, 4, 4);
+    header_verdict(bytes, 46, 4, 4)?;
     let words = word_count(bytes) as usize;
     let possible = (1 <= words) & (words <= MOST_WORDS);
-    let held = words <= room;
-    let value = then(
-        demand(possible, Refusal::BadWordCount),
-        demand(held, Refusal::ShortMemory),
-    );
-    then(header, value)
+    demand(possible, Refusal::BadWordCount)?;
+    demand(words <= room, Refusal::ShortMemory)
 }
 
 // The version, the registers, the flags and the word count.
-fn head_verdict(bytes: &[u8], room: usize) -> Verdict
+fn head_verdict(bytes: &[u8], room: usize) -> Result<(), Refusal>
     ensures { result ≡ head_verdict bytes.now room }
 {
-    let version = version_verdict(bytes);
-    let registers = header_verdict(bytes, 4, 2, 32);
-    let flags = flags_verdict(bytes);
-    let count = count_verdict(bytes, room);
-    then(version, then(registers, then(flags, count)))
+    version_verdict(bytes)?;
+    header_verdict(bytes, 4, 2, 32)?;
+    flags_verdict(bytes)?;
+    count_verdict(bytes, room)
 }
 
 // The fields of words, from byte 53 on, and the end field, with nothing after it.
-fn tail_verdict(bytes: &[u8], words: usize) -> Verdict
+fn tail_verdict(bytes: &[u8], words: usize) -> Result<(), Refusal>
     requires { words ≤ most_words }
     ensures { result ≡ tail_verdict words 53 bytes.now }
 {
@@ -97,26 +91,17 @@ fn tail_verdict(bytes: &[u8], words: usize) -> Verdict
     let mut left = words;
     while 0 < left {
         let count = words_in_field(left);
-        let verdict = header_verdict(bytes, at, 5, (4 * count) as u32);
-        match verdict {
-            Verdict::Refused(why) => return Verdict::Refused(why),
-            Verdict::Accepted => {
-                at = at + 3 + 4 * count;
-                left = left - count;
-            }
-        }
+        header_verdict(bytes, at, 5, (4 * count) as u32)?;
+        at = at + 3 + 4 * count;
+        left = left - count;
     }
-    let end = header_verdict(bytes, at, 255, 0);
-    let last = bytes.len() <= at + 3;
-    then(end, demand(last, Refusal::TrailingBytes))
+    header_verdict(bytes, at, 255, 0)?;
+    demand(bytes.len() <= at + 3, Refusal::TrailingBytes)
 }
 
-pub fn image_verdict(bytes: &[u8], room: usize) -> Verdict
+pub fn image_verdict(bytes: &[u8], room: usize) -> Result<(), Refusal>
     ensures { result ≡ image_verdict bytes.now room }
 {
-    let head = head_verdict(bytes, room);
-    match head {
-        Verdict::Refused(why) => Verdict::Refused(why),
-        Verdict::Accepted => tail_verdict(bytes, word_count(bytes) as usize),
-    }
+    head_verdict(bytes, room)?;
+    tail_verdict(bytes, word_count(bytes) as usize)
 }

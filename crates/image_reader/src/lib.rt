@@ -8,25 +8,24 @@ mod loads;
 ghost use Rattle.image.specs.Calls.{Reads};
 
 use checks::{image_verdict, image_version, word_count};
-use image::{ReadAnswer, ReadResult};
+use image::{LoadedImage, ReadResult};
 use loads::{cleared_machine, load_memory, machine_at};
-use model::Verdict;
 
 // Reads an image: its words to the front of `memory`, its machine and version in the result. Everything is checked before a word is stored.
 pub fn read(bytes: &[u8], memory: &mut [u32]) -> ReadResult
     ensures { Reads bytes.now memory.old memory.new result }
 {
     match image_verdict(bytes, memory.len()) {
-        Verdict::Refused(why) => ReadResult {
-            answer: ReadAnswer::Refused(why),
+        Err(why) => ReadResult {
+            answer: Err(why),
             machine: cleared_machine(),
         },
-        Verdict::Accepted => {
+        Ok(()) => {
             let words = word_count(bytes);
             let version = image_version(bytes);
             load_memory(bytes, memory, words as usize);
             ReadResult {
-                answer: ReadAnswer::Loaded(words, version),
+                answer: Ok(LoadedImage { words, version }),
                 machine: machine_at(bytes),
             }
         }

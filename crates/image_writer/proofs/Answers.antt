@@ -1,4 +1,5 @@
 -- What the writer answers, by what it tests.
+use Rattle.std.specs.Prelude.{Ok, Err}
 use Prim.Native.Nat.{ℕ, ◌≤◌, ◌<◌}
 use mathlib.Core.Path.{◌≡◌, refl, sym, ap, ◌∙◌}
 use mathlib.Core.Bool.{Bool, true, false}
@@ -10,12 +11,9 @@ use borrow.Author.Tests.{le-leb, lt-leb}
 use Rattle.model.specs.declared.Machine.{Machine}
 use Rattle.model.specs.declared.Refusal.{Refusal}
 use Rattle.model.specs.declared.Refusal.TheVariants.{ShortOutput, WrongVersion}
-use Rattle.model.specs.declared.Verdict.{Verdict}
-use Rattle.model.specs.declared.Verdict.TheVariants.{Accepted, Refused}
 use Rattle.model.specs.Words.{overlay}
-use Rattle.model.specs.Refusals.{verdict_number, left_by, demand, ◌then◌, memory_fits}
+use Rattle.model.specs.Refusals.{verdict_number, left_by, demand, ◌then◌, memory_fits, Verdict}
 use Rattle.model.proofs.Stores.{overlaid}
-use Rattle.image.specs.declared.WriteAnswer.{WriteAnswer}
 use Rattle.image.specs.Format.{is_version, image_of}
 use Rattle.image.specs.Calls.{write_verdict, write_result, write_number, verdict_size, write_size, write_returned, write_bytes, Writes}
 
@@ -24,12 +22,12 @@ module _ (memory : List ℕ) (machine : Machine) (version : ℕ) (out : List ℕ
   image = image_of version machine memory
 
   numbered : (v : Verdict) → write_number (write_result v image) ≡ verdict_number v
-  numbered Accepted = refl
-  numbered (Refused why) = refl
+  numbered (Ok u) = refl
+  numbered (Err why) = refl
 
   sized : (v : Verdict) → write_size (write_result v image) ≡ verdict_size v image
-  sized Accepted = refl
-  sized (Refused why) = refl
+  sized (Ok u) = refl
+  sized (Err why) = refl
 
   -- the contract, from the verdict and what it asks of the output
   judged : (v : Verdict) (out' : List ℕ) → v ≡ write_verdict memory version image out → out' ≡ left_by v (overlay image out) out → Writes memory machine version out out' (write_result v image)
@@ -48,17 +46,17 @@ module _ (memory : List ℕ) (machine : Machine) (version : ℕ) (out : List ℕ
   unfolding write_verdict
   tests v t k p q s = λ i. p i then demand (sym q i) ShortOutput then demand (sym s i) WrongVersion
 
-  pub write_refused : {why : Refusal} → Refused why ≡ memory_fits memory → Writes memory machine version out out (WriteAnswer.Refused why)
-  write_refused {why} e = judged (Refused why) out (tests (Refused why) _ _ e refl refl) refl
+  pub write_refused : {why : Refusal} → Err why ≡ memory_fits memory → Writes memory machine version out out (Err why)
+  write_refused {why} e = judged (Err why) out (tests (Err why) _ _ e refl refl) refl
 
-  module _ (fits : Accepted ≡ memory_fits memory) where
-    pub write_no_room : length out < length image → Writes memory machine version out out (WriteAnswer.Refused ShortOutput)
-    write_no_room s = judged (Refused ShortOutput) out (tests Accepted false _ fits (lt-leb _ _ s) refl) refl
+  module _ (fits : (Ok tt) ≡ memory_fits memory) where
+    pub write_no_room : length out < length image → Writes memory machine version out out (Err ShortOutput)
+    write_no_room s = judged (Err ShortOutput) out (tests (Ok tt) false _ fits (lt-leb _ _ s) refl) refl
 
-    pub write_no_version : length image ≤ length out → is_version version ≡ false → Writes memory machine version out out (WriteAnswer.Refused WrongVersion)
-    write_no_version s k = judged (Refused WrongVersion) out (tests Accepted true false fits (le-leb _ _ s) k) refl
+    pub write_no_version : length image ≤ length out → is_version version ≡ false → Writes memory machine version out out (Err WrongVersion)
+    write_no_version s k = judged (Err WrongVersion) out (tests (Ok tt) true false fits (le-leb _ _ s) k) refl
 
-    pub write_carried : (out' : List ℕ) (n : ℕ) → length image ≤ length out → is_version version ≡ true → out' ≡ sets out 0 image → n ≡ length image → Writes memory machine version out out' (WriteAnswer.Written n)
+    pub write_carried : (out' : List ℕ) (n : ℕ) → length image ≤ length out → is_version version ≡ true → out' ≡ sets out 0 image → n ≡ length image → Writes memory machine version out out' (Ok n)
     write_carried out' n s k p e =
-        let r = judged Accepted out' (tests Accepted true true fits (le-leb _ _ s) k) (p ∙ overlaid out image s) in
-        record { result = ap WriteAnswer.Written e ∙ r.result; bytes = r.bytes; number = r.number; size = e ∙ r.size }
+        let r = judged (Ok tt) out' (tests (Ok tt) true true fits (le-leb _ _ s) k) (p ∙ overlaid out image s) in
+        record { result = ap Ok e ∙ r.result; bytes = r.bytes; number = r.number; size = e ∙ r.size }

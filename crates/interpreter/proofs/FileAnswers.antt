@@ -1,4 +1,6 @@
 -- The file run: refused, carried out, taken back.
+use Rattle.interpreter.specs.declared.FileEnding.{FileEnding}
+use Rattle.std.specs.Prelude.{Ok, Err}
 use Prim.Native.Nat.{ℕ, ◌≤◌, min}
 use mathlib.Core.Path.{◌≡◌, refl, sym, ap, ap₂, ◌∙◌}
 use mathlib.Core.Bool.{Bool, true, false, not, cond, ◌&&◌}
@@ -7,12 +9,10 @@ use native.Mathlib.Omega.{arith}
 use lib.ListN.{length, replicate}
 use Rattle.model.specs.declared.Machine.{Machine}
 use Rattle.model.specs.declared.Refusal.{Refusal}
-use Rattle.model.specs.declared.Verdict.{Verdict}
-use Rattle.model.specs.declared.Verdict.TheVariants.{Accepted, Refused}
 use Rattle.model.specs.Words.{overlay}
 use Rattle.model.specs.Interpreter.{goes_on, Run, begin}
 use Rattle.model.specs.Journal.{room_in, Noted, fresh, completes, journal_words}
-use Rattle.model.specs.Refusals.{verdict_number, left_by, memory_fits, bottom_fits, file_verdict}
+use Rattle.model.specs.Refusals.{verdict_number, left_by, memory_fits, bottom_fits, file_verdict, Verdict}
 use Rattle.model.proofs.Waits.{first_fits}
 use Rattle.model.proofs.Verdicts.{both, memory-bounds}
 use Rattle.marks.proofs.Telling.{none_told}
@@ -25,20 +25,19 @@ use Rattle.engine.proofs.Noting.{Follows, follows-run}
 use Rattle.journal.specs.Undo.{undone, restored}
 use Rattle.journal.proofs.Restoring.{run-restores}
 use Rattle.journal.proofs.Taking.{laid-over, taken}
-use Rattle.interpreter.specs.declared.FileAnswer.{FileAnswer}
 use Rattle.interpreter.specs.declared.FileResult.{FileResult}
 use Rattle.interpreter.specs.Calls.{file_answer_of, file_result, memory_end, file_number, file_board, whole_file, file_returned, file_words, file_places, FileRuns}
 use Rattle.interpreter.specs.Ends.{ended, FileEnds}
 
 -- ---- the end, by whether it finished
 
-module _ {memory journal : List ℕ} {start : Machine} {e : Ended} {a : FileAnswer} (told : a ≡ file_answer_of e.full e.ending) {g : Bool} (on : g ≡ goes_on e.ending) where
+module _ {memory journal : List ℕ} {start : Machine} {e : Ended} {a : FileEnding} (told : a ≡ file_answer_of e.full e.ending) {g : Bool} (on : g ≡ goes_on e.ending) where
   pub end-finished : (not e.full && g) ≡ true
-      → FileEnds memory journal start e memory (record { answer = a; machine = e.machine; ran = e.ran; pairs = e.pairs })
+      → FileEnds memory journal start e memory (record { answer = Ok a; machine = e.machine; ran = e.ran; pairs = e.pairs })
   end-finished t = let q : ended e ≡ true = ap (λ (x : Bool). not e.full && x) (sym on) ∙ t in record { result = rw (q, told); words = rw q }
 
   pub end-undone : (not e.full && g) ≡ false → {memory' : List ℕ} → memory' ≡ undone (min e.pairs (room_in journal)) journal memory
-      → FileEnds memory journal start e memory' (record { answer = a; machine = start; ran = e.ran; pairs = e.pairs })
+      → FileEnds memory journal start e memory' (record { answer = Ok a; machine = start; ran = e.ran; pairs = e.pairs })
   end-undone t u = let q : ended e ≡ false = ap (λ (x : Bool). not e.full && x) (sym on) ∙ t in record { result = rw (q, told); words = rw q u }
 
 -- ---- what the call returns and leaves
@@ -48,13 +47,8 @@ module _ (memory : List ℕ) (bottom : ℕ) (journal : List ℕ) (start : Machin
   whole = whole_file memory bottom journal start count
 
   file-numbered : (v : Verdict) → file_number (file_result v start whole).answer ≡ verdict_number v
-  file-numbered Accepted = go whole.full (goes_on whole.run.ending)
-    where
-      go : (f g : Bool) → file_number (cond f FileAnswer.Full (cond g FileAnswer.Finished FileAnswer.Undone)) ≡ 0
-      go true g = refl
-      go false true = refl
-      go false false = refl
-  file-numbered (Refused why) = refl
+  file-numbered (Ok u) = refl
+  file-numbered (Err why) = refl
 
   as_file : (v : Verdict) → v ≡ file_verdict memory bottom → {r : FileResult} {memory' journal' : List ℕ}
       → r ≡ file_result v start whole → memory' ≡ left_by v (memory_end memory whole) memory
@@ -71,9 +65,9 @@ module _ (memory : List ℕ) (bottom : ℕ) (journal : List ℕ) (start : Machin
       }
 
   -- what a file run that is carried out returns, and leaves in the memory and in the journal
-  module _ {r : FileResult} {memory' journal' : List ℕ} (v : file_verdict memory bottom ≡ Accepted)
+  module _ {r : FileResult} {memory' journal' : List ℕ} (v : file_verdict memory bottom ≡ Ok tt)
       (c : FileRuns memory bottom journal start count memory' journal' r) where
-    pub file-returned : r ≡ file_result Accepted start whole
+    pub file-returned : r ≡ file_result (Ok tt) start whole
     unfolding file_returned
     file-returned = c.result ∙ ap (λ (w : Verdict). file_result w start whole) v
 
@@ -87,16 +81,16 @@ module _ (memory : List ℕ) (bottom : ℕ) (journal : List ℕ) (start : Machin
 
 -- ---- from the loop
 
-accepted-most : (memory : List ℕ) (bottom : ℕ) → file_verdict memory bottom ≡ Accepted → length memory ≤ 16_777_216
+accepted-most : (memory : List ℕ) (bottom : ℕ) → file_verdict memory bottom ≡ Ok tt → length memory ≤ 16_777_216
 unfolding file_verdict
 accepted-most memory bottom v = (memory-bounds memory (both (memory_fits memory) (bottom_fits memory bottom) v).0).1
 
 module _ {memory : List ℕ} {bottom : ℕ} {journal : List ℕ} {start : Machine} {count : ℕ} {v : Verdict} (e : v ≡ file_verdict memory bottom) where
-  pub file-refused : {why : Refusal} → v ≡ Refused why
-      → FileRuns memory bottom journal start count memory journal (record { answer = FileAnswer.Refused why; machine = start; ran = 0; pairs = 0 })
-  file-refused {why} p = as_file memory bottom journal start count (Refused why) (sym p ∙ e) refl refl refl
+  pub file-refused : {why : Refusal} → v ≡ Err why
+      → FileRuns memory bottom journal start count memory journal (record { answer = Err why; machine = start; ran = 0; pairs = 0 })
+  file-refused {why} p = as_file memory bottom journal start count (Err why) (sym p ∙ e) refl refl refl
 
-  module _ (p : v ≡ Accepted) {memory' journal' map' : List ℕ} {d : Ended}
+  module _ (p : v ≡ Ok tt) {memory' journal' map' : List ℕ} {d : Ended}
       (h : EngineEnds memory (file_board bottom) (begins_at [] 0) journal (replicate 49184 0) 0 start count memory' journal' map' d) where
     abbrev n : Noted
     n = whole_file memory bottom journal start count
@@ -148,7 +142,7 @@ module _ {memory : List ℕ} {bottom : ℕ} {journal : List ℕ} {start : Machin
         let ran : d.ran ≡ n.run.ran = ap (λ (x : Ended). x.ran) h.result ∙ ap (λ (r : Run). r.ran) i.run in
         let pairs : d.pairs ≡ length n.pairs = ap (λ (x : Ended). x.pairs) h.result ∙ i.counted in
         let words : memory' ≡ n.run.memory = h.words ∙ ap (λ (r : Run). r.memory) i.run in
-        as_file memory bottom journal start count Accepted (sym p ∙ e)
+        as_file memory bottom journal start count (Ok tt) (sym p ∙ e)
         (x.result ∙ rw (full, ending, machine, ran, pairs, machine-by n.full (goes_on n.run.ending) n.run.machine))
         (x.words ∙ rw (full, ending) (words-by n.full (goes_on n.run.ending) memory' restores ∙ ap (λ (l : List ℕ). cond (completes n) l memory) words))
         (h.places ∙ i.places ∙ laid-over journal n.pairs i.fits)

@@ -1,42 +1,31 @@
 -- The two public calls, run and file run: their results, the memory and the journal at exit, carried out or turned down. Document 01,
 -- "Machine and instruction word", "Clocks", "File run and journal" and "Why a call is turned down"; CR 5 to CR 7 and CR 11.
-use Rattle.std.specs.Prelude.{ℕ, ◌≡◌, Bool, cond, List, [], length}
+use Rattle.model.specs.declared.Refusal.{Refusal}
+use Rattle.interpreter.specs.declared.FileEnding.{FileEnding}
+use Rattle.std.specs.Prelude.{ℕ, ◌≡◌, Bool, cond, List, [], length, Ok, Err, Result}
 use Rattle.model.specs.declared.Machine.{Machine}
 use Rattle.model.specs.declared.Ending.{Ending}
-use Rattle.model.specs.declared.Ending.TheVariants.{Finished, Outside, NoInstruction}
-use Rattle.model.specs.declared.Verdict.{Verdict}
-use Rattle.model.specs.declared.Verdict.TheVariants.{Accepted, Refused}
 use Rattle.model.specs.Words.{overlay}
 use Rattle.model.specs.Board.{Board, board_with}
 use Rattle.model.specs.Interpreter.{goes_on, Run, begin, interpret}
 use Rattle.model.specs.Journal.{room_in, Noted, fresh, run_noted, completes, journal_words}
-use Rattle.model.specs.Refusals.{refusal_number, verdict_number, left_by, run_verdict, file_verdict}
-use Rattle.interpreter.specs.declared.RunAnswer.{RunAnswer}
+use Rattle.model.specs.Refusals.{refusal_number, verdict_number, left_by, run_verdict, file_verdict, Verdict}
 use Rattle.interpreter.specs.declared.RunResult.{RunResult}
-use Rattle.interpreter.specs.declared.FileAnswer.{FileAnswer}
 use Rattle.interpreter.specs.declared.FileResult.{FileResult}
 
 -- ---- the run
 
--- "finished", "outside" or "no instruction"
-abbrev pub run_answer : Ending → RunAnswer
-run_answer Finished = RunAnswer.Finished
-run_answer Outside = RunAnswer.Outside
-run_answer NoInstruction = RunAnswer.NoInstruction
-
--- a run that is turned down returns its start and its list position, and has run nothing
+-- the answer is "finished", "outside" or "no instruction"; a run that is turned down returns its start and its list position, and has run nothing
 abbrev pub run_result : Verdict → (position : ℕ) → Machine → Run → RunResult
-run_result Accepted position start r =
-    record { answer = run_answer r.ending; machine = r.machine; ran = r.ran; clocks = r.clocks; position = r.position }
-run_result (Refused why) position start r =
-    record { answer = RunAnswer.Refused why; machine = start; ran = 0; clocks = 0; position = position }
+run_result (Ok u) position start r =
+    record { answer = Ok r.ending; machine = r.machine; ran = r.ran; clocks = r.clocks; position = r.position }
+run_result (Err why) position start r =
+    record { answer = Err why; machine = start; ran = 0; clocks = 0; position = position }
 
 -- the papers' number of an answer; 0 where the call was carried out
-abbrev pub run_number : RunAnswer → ℕ
-run_number RunAnswer.Finished = 0
-run_number RunAnswer.Outside = 0
-run_number RunAnswer.NoInstruction = 0
-run_number (RunAnswer.Refused why) = refusal_number why
+abbrev pub run_number : Result Ending Refusal → ℕ
+run_number (Ok ending) = 0
+run_number (Err why) = refusal_number why
 
 -- what a run of so many instructions returns, and the memory that it leaves
 unfoldable pub run_returned : (memory : List ℕ) → Board → (position : ℕ) → Machine → (count : ℕ) → RunResult
@@ -56,28 +45,26 @@ pub record Runs (memory : List ℕ) (board : Board) (position : ℕ) (start : Ma
 -- ---- the file run
 
 -- CR 11: "journal full"; else "finished" where the interpreter finishes, and "undone" where it stopped
-abbrev pub file_answer_of : (full : Bool) → Ending → FileAnswer
-file_answer_of full e = cond full FileAnswer.Full (cond (goes_on e) FileAnswer.Finished FileAnswer.Undone)
+abbrev pub file_answer_of : (full : Bool) → Ending → FileEnding
+file_answer_of full e = cond full FileEnding.Full (cond (goes_on e) FileEnding.Finished FileEnding.Undone)
 
-abbrev pub file_answer : Noted → FileAnswer
+abbrev pub file_answer : Noted → FileEnding
 file_answer k = file_answer_of k.full k.run.ending
 
 -- unless it finished it returns its start
 abbrev pub file_result : Verdict → Machine → Noted → FileResult
-file_result Accepted start k =
-    record { answer = file_answer k; machine = cond (completes k) k.run.machine start; ran = k.run.ran; pairs = length k.pairs }
-file_result (Refused why) start k =
-    record { answer = FileAnswer.Refused why; machine = start; ran = 0; pairs = 0 }
+file_result (Ok u) start k =
+    record { answer = Ok (file_answer k); machine = cond (completes k) k.run.machine start; ran = k.run.ran; pairs = length k.pairs }
+file_result (Err why) start k =
+    record { answer = Err why; machine = start; ran = 0; pairs = 0 }
 
 -- and leaves the memory as it was
 abbrev pub memory_end : (memory : List ℕ) → Noted → List ℕ
 memory_end memory k = cond (completes k) k.run.memory memory
 
-abbrev pub file_number : FileAnswer → ℕ
-file_number FileAnswer.Finished = 0
-file_number FileAnswer.Undone = 0
-file_number FileAnswer.Full = 0
-file_number (FileAnswer.Refused why) = refusal_number why
+abbrev pub file_number : Result FileEnding Refusal → ℕ
+file_number (Ok ending) = 0
+file_number (Err why) = refusal_number why
 
 -- a file run has no waits
 abbrev pub file_board : (bottom : ℕ) → Board

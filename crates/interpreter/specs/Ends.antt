@@ -1,5 +1,5 @@
 -- What the end of a file run leaves, from how the loop ended: the answer, and the memory with its stores taken back unless it finished. CR 11.
-use Rattle.std.specs.Prelude.{ℕ, min, ◌≡◌, Bool, not, cond, ◌&&◌, List}
+use Rattle.std.specs.Prelude.{ℕ, min, ◌≡◌, Bool, not, cond, ◌&&◌, List, Ok}
 use Rattle.model.specs.declared.Machine.{Machine}
 use Rattle.model.specs.Interpreter.{goes_on}
 use Rattle.model.specs.Journal.{room_in}
@@ -12,5 +12,5 @@ abbrev pub ended : Ended → Bool
 ended e = not e.full && goes_on e.ending
 
 pub record FileEnds (memory journal : List ℕ) (start : Machine) (e : Ended) (memory' : List ℕ) (r : FileResult) : Type 0 where
-  pub result : r ≡ record { answer = file_answer_of e.full e.ending; machine = cond (ended e) e.machine start; ran = e.ran; pairs = e.pairs }
+  pub result : r ≡ record { answer = Ok (file_answer_of e.full e.ending); machine = cond (ended e) e.machine start; ran = e.ran; pairs = e.pairs }
   pub words : memory' ≡ cond (ended e) memory (undone (min e.pairs (room_in journal)) journal memory)

@@ -3,27 +3,19 @@
 
 ghost use Rattle.std.specs.Prelude.{◌≡◌};
 ghost use Rattle.model.specs.Board.{board_with};
-ghost use Rattle.interpreter.specs.Calls.{run_answer, file_answer_of, Runs, FileRuns};
+ghost use Rattle.interpreter.specs.Calls.{file_answer_of, Runs, FileRuns};
 ghost use Rattle.interpreter.specs.Ends.{FileEnds};
 
 use engine::{Ended, engine};
 use journal::undo;
-use model::{Ending, Machine, Refusal, Verdict};
+use model::{Ending, Machine, Refusal};
 use step::goes_on;
 use verdicts::{file_verdict, run_verdict};
 
-#[derive(Clone, Copy)]
-pub enum RunAnswer {
-    Finished,
-    Outside,
-    NoInstruction,
-    Refused(Refusal),
-}
-
-// position: where the wait list goes on.
+// answer: how the run ended, or why it was turned down; position: where the wait list goes on.
 #[derive(Clone, Copy)]
 pub struct RunResult {
-    pub answer: RunAnswer,
+    pub answer: Result<Ending, Refusal>,
     pub machine: Machine,
     pub ran: u32,
     pub clocks: u64,
@@ -31,31 +23,20 @@ pub struct RunResult {
 }
 
 // Full: a store needed one address more than the journal has pairs.
-#[derive(Clone, Copy)]
-pub enum FileAnswer {
+#[derive(Clone, Copy, Debug, PartialEq, Eq)]
+pub enum FileEnding {
     Finished,
     Undone,
     Full,
-    Refused(Refusal),
 }
 
-// pairs: how many pairs the journal holds.
+// answer: how the file run ended, or why it was turned down; pairs: how many pairs the journal holds.
 #[derive(Clone, Copy)]
 pub struct FileResult {
-    pub answer: FileAnswer,
+    pub answer: Result<FileEnding, Refusal>,
     pub machine: Machine,
     pub ran: u32,
     pub pairs: usize,
-}
-
-fn run_answer(ending: Ending) -> RunAnswer
-    ensures { result ≡ run_answer ending }
-{
-    match ending {
-        Ending::Finished => RunAnswer::Finished,
-        Ending::Outside => RunAnswer::Outside,
-        Ending::NoInstruction => RunAnswer::NoInstruction,
-    }
 }
 
 // Up to `count` instructions from `start`, with waits from a position of their list, on a memory with a fixed bottom.
@@ -70,14 +51,14 @@ pub fn run(
     ensures { Runs memory.old (board_with bottom waits.now) position start count memory.new result }
 {
     match run_verdict(&*memory, bottom, waits, position) {
-        Verdict::Refused(why) => RunResult {
-            answer: RunAnswer::Refused(why),
+        Err(why) => RunResult {
+            answer: Err(why),
             machine: start,
             ran: 0,
             clocks: 0,
             position,
         },
-        Verdict::Accepted => {
+        Ok(()) => {
             let mut none: [u32; 0] = [];
             let mut map: [u32; 0] = [];
             let e = engine(
@@ -88,7 +69,7 @@ pub fn run(
             let ran = e.ran;
             let after = e.position as u32;
             RunResult {
-                answer: run_answer(ending),
+                answer: Ok(ending),
                 machine,
                 ran,
                 clocks: e.clocks,
@@ -99,16 +80,16 @@ pub fn run(
 }
 
 // How a file run ended.
-fn file_answer(full: bool, ending: Ending) -> FileAnswer
+fn file_answer(full: bool, ending: Ending) -> FileEnding
     ensures { result ≡ file_answer_of full ending }
 {
     if full {
-        return FileAnswer::Full;
+        return FileEnding::Full;
     }
     if goes_on(ending) {
-        return FileAnswer::Finished;
+        return FileEnding::Finished;
     }
-    FileAnswer::Undone
+    FileEnding::Undone
 }
 
 // A file run that is not turned down. Where it does not finish, its stores are taken back.
@@ -120,7 +101,7 @@ fn file_end(memory: &mut [u32], journal: &[u32], start: Machine, e: Ended) -> Fi
     if !e.full & goes_on(ending) {
         let last = e.machine;
         return FileResult {
-            answer,
+            answer: Ok(answer),
             machine: last,
             ran: e.ran,
             pairs: e.pairs,
@@ -128,7 +109,7 @@ fn file_end(memory: &mut [u32], journal: &[u32], start: Machine, e: Ended) -> Fi
     }
     undo(memory, journal, e.pairs);
     FileResult {
-        answer,
+        answer: Ok(answer),
         machine: start,
         ran: e.ran,
         pairs: e.pairs,
@@ -147,13 +128,13 @@ pub fn file_run(
     ensures { FileRuns memory.old bottom journal.old start count memory.new journal.new result }
 {
     match file_verdict(&*memory, bottom) {
-        Verdict::Refused(why) => FileResult {
-            answer: FileAnswer::Refused(why),
+        Err(why) => FileResult {
+            answer: Err(why),
             machine: start,
             ran: 0,
             pairs: 0,
         },
-        Verdict::Accepted => {
+        Ok(()) => {
             let none: [u16; 0] = [];
             let mut map: [u32; 49_184] = [0; 49_184];
             let e = engine(memory, bottom, &none, 0, journal, &mut map, 0, start, count);

@@ -1,4 +1,6 @@
 -- What `report` answers: for an output that is too short, for a bad image, and for one that is run.
+use Rattle.image.specs.declared.LoadedImage.{LoadedImage}
+use Rattle.std.specs.Prelude.{Err, Result}
 use Prim.Native.Nat.{ℕ, ◌≤◌, ◌<◌}
 use mathlib.Core.Path.{◌≡◌, refl, sym, ap, ◌∙◌}
 use mathlib.Core.Bool.{Bool, true, false, cond}
@@ -12,7 +14,6 @@ use Rattle.model.specs.declared.Refusal.{Refusal}
 use Rattle.model.specs.Words.{overlay}
 use Rattle.model.specs.Refusals.{most_words}
 use Rattle.model.proofs.Stores.{overlaid}
-use Rattle.image.specs.declared.ReadAnswer.{ReadAnswer}
 use Rattle.image.specs.declared.ReadResult.{ReadResult}
 use Rattle.image.specs.Reading.{Outcome, loaded, refused, read_of}
 use Rattle.image.specs.Calls.{read_result, outcome_words, read_returned, read_words, Reads}
@@ -45,7 +46,7 @@ module _ {bytes memory out : List ℕ} where
       }
 
 module _ {bytes memory memory₁ : List ℕ} {r : ReadResult} (h : Reads bytes memory memory₁ r) where
-  is-refused : {why : Refusal} → r.answer ≡ ReadAnswer.Refused why → (o : Outcome) → read_of bytes (length memory) ≡ o
+  is-refused : {why : Refusal} → r.answer ≡ Err why → (o : Outcome) → read_of bytes (length memory) ≡ o
       → (o ≡ refused why) × (memory₁ ≡ memory)
   unfolding read_returned read_words
   is-refused e (loaded version machine words) is =
@@ -56,14 +57,14 @@ module _ {bytes memory memory₁ : List ℕ} {r : ReadResult} (h : Reads bytes m
       (cc, h.words ∙ ap (λ (o : Outcome). outcome_words o memory) is)
 
   -- a bad image
-  pub report_refused : {out out' : List ℕ} {q : ℕ} {why : Refusal} → r.answer ≡ ReadAnswer.Refused why → longest_text ≤ length out
+  pub report_refused : {out out' : List ℕ} {q : ℕ} {why : Refusal} → r.answer ≡ Err why → longest_text ≤ length out
       → Extends out 0 (refused_text why) out' q → Reports bytes memory out memory₁ out' (ReportAnswer.Text q)
   report_refused {why = why} e room put =
       let k = is-refused e (read_of bytes (length memory)) refl in
       reported (refused why) k.0 room put k.1
 
   -- an image that is run
-  module _ {count version : ℕ} (e : r.answer ≡ ReadAnswer.Loaded count version) (kept : length memory₁ ≡ length memory) where
+  module _ {count version : ℕ} (e : r.answer ≡ Ok (record { words = count; version = version })) (kept : length memory₁ ≡ length memory) where
     l : Loads bytes memory memory₁ r count version
     l = loads h e
 

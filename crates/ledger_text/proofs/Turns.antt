@@ -1,4 +1,5 @@
 -- The loop that puts the text of a run in: where it stands, one line more, and its two ends.
+use Rattle.std.specs.Prelude.{Ok}
 use Prim.Native.Nat.{ℕ, ◌+◌, ◌≤◌, ◌<◌}
 use mathlib.Core.Path.{◌≡◌, refl, sym, ap, ◌∙◌}
 use mathlib.Core.List.{List}
@@ -6,26 +7,19 @@ use native.Mathlib.Omega.{arith}
 use lib.ListN.{length}
 use Rattle.model.specs.declared.Machine.{Machine}
 use Rattle.model.specs.declared.Ending.{Ending}
-use Rattle.model.specs.declared.Ending.TheVariants.{Finished, Outside, NoInstruction}
-use Rattle.model.specs.declared.Verdict.TheVariants.{Accepted}
+use Rattle.model.specs.declared.Ending.TheVariants.{Finished}
 use Rattle.model.specs.Interpreter.{Run, pc, instruction, begin, stop, interpret}
 use Rattle.model.specs.Refusals.{most_words, run_verdict}
 use Rattle.model.proofs.Runs.{run_at}
 use Rattle.model.proofs.Verdicts.{run-accepted}
 use Rattle.interpreter.specs.declared.RunResult.{RunResult}
-use Rattle.interpreter.specs.Calls.{run_answer, run_result, Runs}
+use Rattle.interpreter.specs.Calls.{run_result, Runs}
 use Rattle.interpreter.proofs.Answers.{returned, left_in}
 use Rattle.ledger_lines.specs.Lines.{most_lines, ledger_board, line, lines, heading, ending_text, ending_word}
 use Rattle.ledger_lines.proofs.Lengths.{clocks-small, lines-length}
 use Rattle.ledger_text.specs.Parts.{Extends, ending_of, RunPuts}
 use Rattle.ledger_text.proofs.Parts.{◌⊳◌}
 use Rattle.ledger_text.proofs.Runs.{one_run, stops, next-run, next-lines, stopped-run, stopped-text, finished-text}
-
--- what a run answers tells how it ended
-ending-told : (e : Ending) → ending_of (run_answer e) ≡ e
-ending-told Finished = refl
-ending-told Outside = refl
-ending-told NoInstruction = refl
 
 -- ---- the loop, from a buffer that holds the heading
 
@@ -65,10 +59,10 @@ module _ {start : Machine} {memory₀ out₀ : List ℕ} {at₀ : ℕ} where
 
     module _ {memory' : List ℕ} {r : RunResult} (h : Runs memory ledger_board 0 machine 1 memory' r)
         (fits : (0 < length memory₀) × (length memory₀ ≤ most_words)) where
-      accepted : run_verdict memory ledger_board 0 ≡ Accepted
+      accepted : run_verdict memory ledger_board 0 ≡ Ok tt
       accepted = run-accepted memory (omega (arith, a.words)) (omega (arith, a.words))
 
-      now-is : r ≡ run_result Accepted 0 machine (one_run machine memory)
+      now-is : r ≡ run_result (Ok tt) 0 machine (one_run machine memory)
       now-is = returned memory ledger_board 0 machine 1 accepted h
 
       words_are : memory' ≡ (one_run machine memory).memory
@@ -105,7 +99,7 @@ module _ {start : Machine} {memory₀ out₀ : List ℕ} {at₀ : ℕ} where
       stopped {e} none less top said put =
           let stays : (one_run machine memory).ran ≡ 0 = sym (ap (λ (x : RunResult). x.ran) now-is) ∙ none in
           let why : e ≡ (one_run machine memory).ending =
-          said ∙ ap (λ (x : RunResult). ending_of x.answer) now-is ∙ ending-told (one_run machine memory).ending in
+          said ∙ ap (λ (x : RunResult). ending_of x.answer) now-is in
           record {
             text = rw (stopped-text run₀ a.state less stays) at (top ⊳ a.text ⊳ (rw why at put));
             words =

@@ -1,12 +1,12 @@
 -- Parts of a text put into a buffer one after the other, and a run's whole text: what the code's functions leave. Bytes past the
 -- buffer's end are left out. Document 01, "The ledger program"; CR 5.
-use Rattle.std.specs.Prelude.{ℕ, ◌+◌, ◌≤◌, ◌≡◌, List, length}
+use Rattle.model.specs.declared.Refusal.{Refusal}
+use Rattle.std.specs.Prelude.{ℕ, ◌+◌, ◌≤◌, ◌≡◌, List, length, Ok, Err, Result}
 use Rattle.std.proofs.lemmas.List.Edits.{sets}
 use Rattle.model.specs.declared.Machine.{Machine}
 use Rattle.model.specs.declared.Ending.{Ending}
-use Rattle.model.specs.declared.Ending.TheVariants.{Finished, Outside, NoInstruction}
+use Rattle.model.specs.declared.Ending.TheVariants.{Outside}
 use Rattle.model.specs.Interpreter.{begin, interpret}
-use Rattle.interpreter.specs.declared.RunAnswer.{RunAnswer}
 use Rattle.ledger_lines.specs.Lines.{most_lines, ledger_board, run_text}
 
 -- a text put in from a place on, and the place after it
@@ -20,11 +20,9 @@ pub record ExtendsBy (most : ℕ) (out : List ℕ) (at : ℕ) (text out' : List 
   pub near : next ≤ at + most
 
 -- how a run ended that answered so; one that was turned down, which none on an image's words is, counts as outside
-abbrev pub ending_of : RunAnswer → Ending
-ending_of RunAnswer.Finished = Finished
-ending_of RunAnswer.Outside = Outside
-ending_of RunAnswer.NoInstruction = NoInstruction
-ending_of (RunAnswer.Refused why) = Outside
+abbrev pub ending_of : Result Ending Refusal → Ending
+ending_of (Ok ending) = ending
+ending_of (Err why) = Outside
 
 -- a run on a memory: its text in the buffer from the start, and the words that it leaves
 pub record RunPuts (start : Machine) (memory out memory' out' : List ℕ) (size : ℕ) : Type 0 where

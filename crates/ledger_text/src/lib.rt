@@ -6,7 +6,6 @@ mod running;
 
 ghost use Rattle.ledger_text.specs.Report.{Reports, ReportsInput};
 
-use image::ReadAnswer;
 use image_reader::read;
 use lines::put_refused;
 use running::put_run;
@@ -36,9 +35,9 @@ pub fn report(bytes: &[u8], memory: &mut [u32], out: &mut [u8]) -> ReportAnswer
     let result = read(bytes, memory);
     let answer = result.answer;
     match answer {
-        ReadAnswer::Refused(why) => ReportAnswer::Text(put_refused(out, why)),
-        ReadAnswer::Loaded(words, _) => {
-            let count = words as usize;
+        Err(why) => ReportAnswer::Text(put_refused(out, why)),
+        Ok(loaded) => {
+            let count = loaded.words as usize;
             let machine = result.machine;
             ReportAnswer::Text(put_run(&mut memory[..count], machine, out))
         }

@@ -7,8 +7,8 @@ ghost use Rattle.ledger_lines.specs.Lines.{ledger_board};
 ghost use Rattle.ledger_text.specs.Parts.{ending_of, RunPuts};
 
 use super::lines::{put_ending, put_heading, put_line};
-use interpreter::{RunAnswer, RunResult, run};
-use model::{Ending, Machine};
+use interpreter::{RunResult, run};
+use model::{Ending, Machine, Refusal};
 use operands::load;
 
 const MOST_LINES: u64 = 16;
@@ -28,15 +28,10 @@ fn run_one(memory: &mut [u32], machine: Machine) -> RunResult
 }
 
 // How a run ended. One on an image's words is never refused.
-fn ending_of(answer: RunAnswer) -> Ending
+fn ending_of(answer: Result<Ending, Refusal>) -> Ending
     ensures { result ≡ ending_of answer }
 {
-    match answer {
-        RunAnswer::Finished => Ending::Finished,
-        RunAnswer::Outside => Ending::Outside,
-        RunAnswer::NoInstruction => Ending::NoInstruction,
-        RunAnswer::Refused(_) => Ending::Outside,
-    }
+    answer.unwrap_or(Ending::Outside)
 }
 
 // Runs one instruction at a time, as the line shows what was there before it.

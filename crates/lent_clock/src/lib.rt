@@ -6,8 +6,8 @@ ghost use Rattle.model.specs.Board.{board_with};
 ghost use Rattle.gate_machine.specs.Calls.{GateRuns};
 ghost use Rattle.lent_clock.specs.Calls.{LentClock};
 
-use gate_machine::{GateOutcome, GateResult, run};
-use model::GateState;
+use gate_machine::{GateResult, run};
+use model::{GateState, Refusal};
 
 // A run of one clock.
 fn clock(memory: &mut [u32], bottom: u32, waits: &[u16], state: GateState) -> GateResult
@@ -23,7 +23,7 @@ pub fn clock_lent(
     bottom: u32,
     waits: &[u16],
     state: &mut GateState,
-) -> GateOutcome
+) -> Result<u64, Refusal>
     ensures { LentClock memory.old (board_with bottom waits.now) state.old memory.new state.new result }
 {
     let s = *state;

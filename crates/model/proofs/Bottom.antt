@@ -1,4 +1,5 @@
 -- CR 6: the bottom of memory is kept, and where nothing is stored below it the engines do what they do with the bottom at 0.
+use Rattle.std.specs.Prelude.{Ok}
 use Prim.Native.Nat.{ℕ, zero, suc}
 use mathlib.Core.Path.{◌≡◌, refl, sym, ap, ap₂, ◌∙◌}
 use mathlib.Core.Bool.{Bool, true, false, not, cond, ◌&&◌, true≢false}
@@ -9,8 +10,6 @@ use lib.Seq.{take-set-le}
 use borrow.Author.Tests.{leb-true, lt-leb, eqb-true}
 use Rattle.model.specs.declared.GateState.{GateState}
 use Rattle.model.specs.declared.Machine.{Machine}
-use Rattle.model.specs.declared.Verdict.{Verdict}
-use Rattle.model.specs.declared.Verdict.TheVariants.{Accepted}
 use Rattle.model.specs.Words.{present, store_word, alterable, store_above}
 use Rattle.model.specs.Operands.{in_memory}
 use Rattle.model.specs.Board.{Board}
@@ -18,7 +17,7 @@ use Rattle.model.specs.Resets.{is_reset}
 use Rattle.model.specs.Interpreter as I
 use Rattle.model.specs.Journal.{Pair, stored_by, Noted, within, run_one, run_noted, fresh}
 use Rattle.model.specs.GateMachine.{Gate, gate, with_row, rows, work, is_access, remaining, position_now, work_or_wait, clock, reset_or_clock, gate_run}
-use Rattle.model.specs.Refusals.{◌then◌, memory_fits, bottom_fits, waits_fit, resets_fit, start_fits, state_fits, run_verdict, file_verdict, gate_verdict}
+use Rattle.model.specs.Refusals.{◌then◌, memory_fits, bottom_fits, waits_fit, resets_fit, start_fits, state_fits, run_verdict, file_verdict, gate_verdict, Verdict}
 use Rattle.model.specs.Bottom.{MemoryFirst, BottomNext, RunKeepsBottom, GateKeepsBottom, LevelStores, never, stores_below, never_stores_below, clock_stores_below, no_clock_stores_below, level, RunAsLevel, GateAsLevel, NeverAsLevel, NoClockAsLevel, AcceptedAsLevel}
 use Rattle.model.proofs.Cases.{pick, Each, past, ◌▸◌}
 use Rattle.model.proofs.Runs.{one_more}
@@ -268,8 +267,8 @@ no-clock-as-level board resets k g =
     never-same _ _ (λ i e. ap (clock_stores_below board.bottom board (is_reset resets i)) (gate-as-level board resets i g e)) k
 
 -- a bottom of 0 is never too high
-level-fits : (memory : List ℕ) (bottom : ℕ) (rest : Verdict) → (memory_fits memory then bottom_fits memory bottom then rest) ≡ Accepted
-    → (memory_fits memory then bottom_fits memory 0 then rest) ≡ Accepted
+level-fits : (memory : List ℕ) (bottom : ℕ) (rest : Verdict) → (memory_fits memory then bottom_fits memory bottom then rest) ≡ Ok tt
+    → (memory_fits memory then bottom_fits memory 0 then rest) ≡ Ok tt
 level-fits memory bottom rest e =
     let (m, br) = both (memory_fits memory) (bottom_fits memory bottom then rest) e in
     rw (m, leb-zero (length memory)) (both (bottom_fits memory bottom) rest br).1

@@ -1,4 +1,5 @@
 -- CR 6, computed: stores at, above and below the bottom of memory in both engines, a read below it, and which bottoms fit.
+use Rattle.std.specs.Prelude.{Ok, Err}
 use Prim.Native.Nat.{ℕ}
 use mathlib.Core.Path.{◌≡◌, refl}
 use mathlib.Core.Bool.{Bool, true, false}
@@ -7,8 +8,6 @@ use lib.ListN.{replicate}
 use Rattle.arithmetic.specs.Alu.{answers, alu_at, alu_of}
 use Rattle.model.specs.declared.GateState.{GateState}
 use Rattle.model.specs.declared.Refusal.TheVariants.{NoWords, BottomTooHigh}
-use Rattle.model.specs.declared.Verdict.{Verdict}
-use Rattle.model.specs.declared.Verdict.TheVariants.{Accepted, Refused}
 use Rattle.model.specs.Words.{field, bit, is_instruction}
 use Rattle.model.specs.Operands.{operand_a, operand_b}
 use Rattle.model.specs.Alu.{is_move, operation, alu, flags_after, stores}
@@ -19,7 +18,7 @@ use Rattle.model.specs.Journal.{stored_by, journal_pairs, journal_words}
 use Rattle.model.specs.GateMachine.{Gate, gate, state_with, at_rest, work, is_access, remaining, position_now, work_or_wait, clock, gate_run}
 use Rattle.model.specs.Packed.{no_flags}
 use Rattle.model.specs.Agreement.{gate_from}
-use Rattle.model.specs.Refusals.{run_verdict}
+use Rattle.model.specs.Refusals.{run_verdict, Verdict}
 use Rattle.model.specs.Bottom.{never, never_stores_below, no_clock_stores_below}
 
 -- r2, which is 5, is moved to word 1, which is 7; the accesses are the fetch, B's read and the store
@@ -99,10 +98,10 @@ no-clock = refl
 judged : (memory : List ℕ) → (bottom : ℕ) → Verdict
 judged memory bottom = run_verdict memory (board_with bottom []) 0
 
-fits : map (judged (0 ∷ 0 ∷ [])) (0 ∷ 2 ∷ 3 ∷ []) ≡ Accepted ∷ Accepted ∷ Refused BottomTooHigh ∷ []
+fits : map (judged (0 ∷ 0 ∷ [])) (0 ∷ 2 ∷ 3 ∷ []) ≡ Ok tt ∷ Ok tt ∷ Err BottomTooHigh ∷ []
 unfolding judged position_fits run_verdict
 fits = refl
 
-words-first : judged [] 1 ≡ Refused NoWords
+words-first : judged [] 1 ≡ Err NoWords
 unfolding judged run_verdict
 words-first = refl

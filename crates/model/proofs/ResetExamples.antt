@@ -1,5 +1,6 @@
 -- CR 7, computed: what a reset clock changes and what it leaves, in every part of an instruction, out of row 12 and from an address that is
 -- never acknowledged; which lists rise; and a run that goes on from where the reset left it.
+use Rattle.std.specs.Prelude.{Ok, Err}
 use Prim.Native.Nat.{ℕ, ◌+◌}
 use mathlib.Core.Path.{◌≡◌, refl}
 use mathlib.Core.Bool.{Bool, true, false}
@@ -9,8 +10,6 @@ use Rattle.arithmetic.specs.Alu.{answers, alu_at, alu_of}
 use Rattle.model.specs.declared.Flags.{Flags}
 use Rattle.model.specs.declared.GateState.{GateState}
 use Rattle.model.specs.declared.Refusal.TheVariants.{BottomTooHigh, BadGateState, ResetsNotRising}
-use Rattle.model.specs.declared.Verdict.{Verdict}
-use Rattle.model.specs.declared.Verdict.TheVariants.{Accepted, Refused}
 use Rattle.model.specs.Words.{field, bit, is_instruction}
 use Rattle.model.specs.Operands.{operand_a, operand_b}
 use Rattle.model.specs.Alu.{is_move, operation, alu, flags_after, stores}
@@ -20,7 +19,7 @@ use Rattle.model.specs.Resets.{rises, resets_below, resets_from, resets_then}
 use Rattle.model.specs.Interpreter.{Run, execute, advance, interpret}
 use Rattle.model.specs.GateMachine.{Gate, gate, state_with, with_row, work, is_access, remaining, position_now, work_or_wait, clock, gate_run}
 use Rattle.model.specs.Packed.{flags_of}
-use Rattle.model.specs.Refusals.{run_verdict, gate_verdict}
+use Rattle.model.specs.Refusals.{run_verdict, gate_verdict, Verdict}
 use Rattle.model.specs.Agreement.{gate_from, interpreter_from, interpreter_mark, gate_mark}
 
 -- ---- one instruction, cut on each of its clocks
@@ -112,11 +111,11 @@ judged : (bottom row : ℕ) → (resets : List ℕ) → Verdict
 judged bottom row resets = gate_verdict (memory 7) (board_with bottom (2 ∷ [])) resets (with_row row start)
 
 order : judged 4 13 (1 ∷ 1 ∷ []) ∷ judged 0 13 (1 ∷ 1 ∷ []) ∷ judged 0 13 (1 ∷ 2 ∷ []) ∷ judged 0 12 (1 ∷ 2 ∷ []) ∷ []
-    ≡ Refused BottomTooHigh ∷ Refused ResetsNotRising ∷ Refused BadGateState ∷ Accepted ∷ []
+    ≡ Err BottomTooHigh ∷ Err ResetsNotRising ∷ Err BadGateState ∷ Ok tt ∷ []
 unfolding judged carry is_access position_fits gate_verdict
 order = refl
 
-positions : map (run_verdict (memory 7) (board_with 0 (2 ∷ []))) (0 ∷ 1 ∷ []) ≡ Accepted ∷ Refused BadGateState ∷ []
+positions : map (run_verdict (memory 7) (board_with 0 (2 ∷ []))) (0 ∷ 1 ∷ []) ≡ Ok tt ∷ Err BadGateState ∷ []
 unfolding position_fits run_verdict
 positions = refl
 

@@ -1,4 +1,5 @@
 -- A clock keeps what a gate run asks of its state and memory, so that the next run of a series is not turned down.
+use Rattle.std.specs.Prelude.{Ok}
 use Prim.Native.Nat.{ℕ, zero, suc, ◌≤◌, ◌<◌}
 use mathlib.Core.Path.{◌≡◌, refl, ap, ◌∙◌}
 use mathlib.Core.Bool.{Bool, true, false, cond, ◌&&◌, and-eq-true_iff}
@@ -10,7 +11,6 @@ use borrow.Author.Tests.{lt-ltb, le-leb, leb-true, eqb-true}
 use Rattle.model.specs.declared.Machine.{Machine}
 use Rattle.model.specs.declared.GateState.{GateState}
 use Rattle.model.specs.declared.Refusal.TheVariants.{LongWaitList, BadGateState, ResetsNotRising}
-use Rattle.model.specs.declared.Verdict.TheVariants.{Accepted}
 use Rattle.model.specs.Words.{is_instruction, word_at}
 use Rattle.model.specs.Operands.{operand_a, operand_b, in_memory}
 use Rattle.model.specs.Alu.{stores}
@@ -36,10 +36,10 @@ pub record Valid (waits : List ℕ) (s : GateState) : Type 0 where
   pub access : access_formed s ≡ true
 
 module _ (waits : List ℕ) (s : GateState) where
-  pub valid-verdict : Valid waits s → state_fits waits s ≡ Accepted
+  pub valid-verdict : Valid waits s → state_fits waits s ≡ Ok tt
   valid-verdict v = rw (le-leb s.row 12 (omega (arith, v.row)), v.position, v.access)
 
-  verdict-valid : state_fits waits s ≡ Accepted → Valid waits s
+  verdict-valid : state_fits waits s ≡ Ok tt → Valid waits s
   verdict-valid e =
       let (rp, a) = (and-eq-true_iff (leb s.row 12 && position_fits waits s.position) (access_formed s)).0 (demanded _ BadGateState e) in
       let (r, p) = (and-eq-true_iff (leb s.row 12) (position_fits waits s.position)).0 rp in
@@ -166,13 +166,13 @@ module _ (board : Board) where
 
 -- nothing that a run asks fails
 record Passed (memory : List ℕ) (board : Board) (resets : List ℕ) (start : GateState) : Type 0 where
-  words : memory_fits memory ≡ Accepted
-  bottom : bottom_fits memory board.bottom ≡ Accepted
-  list : waits_fit board.waits ≡ Accepted
-  rising : resets_fit resets ≡ Accepted
-  state : state_fits board.waits start ≡ Accepted
+  words : memory_fits memory ≡ Ok tt
+  bottom : bottom_fits memory board.bottom ≡ Ok tt
+  list : waits_fit board.waits ≡ Ok tt
+  rising : resets_fit resets ≡ Ok tt
+  state : state_fits board.waits start ≡ Ok tt
 
-module _ (memory : List ℕ) (board : Board) (resets : List ℕ) (start : GateState) (e : gate_verdict memory board resets start ≡ Accepted) where
+module _ (memory : List ℕ) (board : Board) (resets : List ℕ) (start : GateState) (e : gate_verdict memory board resets start ≡ Ok tt) where
   passed : Passed memory board resets start
   unfolding gate_verdict
   passed =
@@ -197,12 +197,12 @@ module _ (memory : List ℕ) (board : Board) (resets : List ℕ) (start : GateSt
   row-there i q = rw (ap (λ (g : Gate). g.state.row) q) (comes-fine i).valid.row
 
   -- the verdict looks at the memory's length, at the state's validity and at the next run's resets
-  still-accepted : (later : List ℕ) → resets_fit later ≡ Accepted → (g : Gate) → Fine board.waits (length memory) g → gate_verdict g.memory board later g.state ≡ Accepted
+  still-accepted : (later : List ℕ) → resets_fit later ≡ Ok tt → (g : Gate) → Fine board.waits (length memory) g → gate_verdict g.memory board later g.state ≡ Ok tt
   unfolding gate_verdict
   still-accepted later l g f = rw (f.length, passed.words, passed.bottom, passed.list, l) (valid-verdict board.waits g.state f.valid)
 
   -- the state and the memory that a run leaves are taken by the next, with resets that rise
-  pub next-accepted : (later : List ℕ) → resets_fit later ≡ Accepted → (i : ℕ) {s : GateState} {m : List ℕ} {f : ℕ} → gate s m f ≡ gate_run board resets i (gate_from start memory) → gate_verdict m board later s ≡ Accepted
+  pub next-accepted : (later : List ℕ) → resets_fit later ≡ Ok tt → (i : ℕ) {s : GateState} {m : List ℕ} {f : ℕ} → gate s m f ≡ gate_run board resets i (gate_from start memory) → gate_verdict m board later s ≡ Ok tt
   next-accepted later l i q =
       ap (λ (g : Gate). gate_verdict g.memory board later g.state) q
       ∙ still-accepted later l (gate_run board resets i (gate_from start memory)) (comes-fine i)
@@ -238,13 +238,13 @@ run-steady board words (suc n) r h = advance-steady board words (interpret board
 
 -- nothing that it asks fails
 pub record RunPassed (memory : List ℕ) (board : Board) (position : ℕ) : Type 0 where
-  pub words : memory_fits memory ≡ Accepted
-  pub bottom : bottom_fits memory board.bottom ≡ Accepted
-  pub list : waits_fit board.waits ≡ Accepted
+  pub words : memory_fits memory ≡ Ok tt
+  pub bottom : bottom_fits memory board.bottom ≡ Ok tt
+  pub list : waits_fit board.waits ≡ Ok tt
   pub short : length board.waits ≤ most_waits
   pub there : position_fits board.waits position ≡ true
 
-pub run-passed : (memory : List ℕ) (board : Board) (position : ℕ) → run_verdict memory board position ≡ Accepted → RunPassed memory board position
+pub run-passed : (memory : List ℕ) (board : Board) (position : ℕ) → run_verdict memory board position ≡ Ok tt → RunPassed memory board position
 unfolding run_verdict
 run-passed memory board position e =
     let waits = board.waits in
@@ -254,8 +254,8 @@ run-passed memory board position e =
     record { words = m; bottom = b; list = w; short = leb-true (length waits) most_waits (demanded _ LongWaitList w); there = demanded _ BadGateState p }
 
 -- the memory and the position that a run leaves are taken by the next
-pub run-accepts-next : (memory : List ℕ) (board : Board) (position : ℕ) (m : Machine) (n : ℕ) → run_verdict memory board position ≡ Accepted
-    → let r = interpret board n (begin m memory position) in run_verdict r.memory board r.position ≡ Accepted
+pub run-accepts-next : (memory : List ℕ) (board : Board) (position : ℕ) (m : Machine) (n : ℕ) → run_verdict memory board position ≡ Ok tt
+    → let r = interpret board n (begin m memory position) in run_verdict r.memory board r.position ≡ Ok tt
 unfolding run_verdict
 run-accepts-next memory board position m n e =
     let p = run-passed memory board position e in

@@ -1,18 +1,16 @@
 -- CR 6: when a bottom is turned down, what the bottom of memory keeps, and that it changes nothing else: where nothing is stored below it, a
 -- run, a file run and a gate run, with resets too (CR 7), do what they do with the bottom at 0.
-use Rattle.std.specs.Prelude.{ℕ, zero, suc, ◌<◌, ◌≡◌, Bool, true, not, ◌&&◌, List, eqb, length, take}
+use Rattle.std.specs.Prelude.{ℕ, zero, suc, ◌<◌, ◌≡◌, Bool, true, not, ◌&&◌, List, eqb, length, take, Ok, Err}
 use Rattle.model.specs.declared.GateState.{GateState}
 use Rattle.model.specs.declared.Refusal.{Refusal}
 use Rattle.model.specs.declared.Refusal.TheVariants.{BottomTooHigh}
-use Rattle.model.specs.declared.Verdict.{Verdict}
-use Rattle.model.specs.declared.Verdict.TheVariants.{Accepted, Refused}
 use Rattle.model.specs.Words.{present, store_word, alterable, store_above}
 use Rattle.model.specs.Board.{Board, board_with}
 use Rattle.model.specs.Resets.{is_reset}
 use Rattle.model.specs.Interpreter.{goes_on, address_b, next_runs, stores_to_memory, Run, interpret}
 use Rattle.model.specs.Journal.{Pair, fresh, run_noted}
 use Rattle.model.specs.GateMachine.{Gate, remaining, gate_run}
-use Rattle.model.specs.Refusals.{memory_fits, run_verdict, file_verdict, gate_verdict}
+use Rattle.model.specs.Refusals.{memory_fits, run_verdict, file_verdict, gate_verdict, Verdict}
 
 -- ---- 21 directly after 2
 
@@ -24,11 +22,11 @@ pub record Judged (memory : List ℕ) (board : Board) (v : Verdict) : Type 0 whe
   pub gate : (resets : List ℕ) (s : GateState) → gate_verdict memory board resets s ≡ v
 
 abbrev pub MemoryFirst : Type 0
-MemoryFirst = (memory : List ℕ) (board : Board) (why : Refusal) → memory_fits memory ≡ Refused why → Judged memory board (Refused why)
+MemoryFirst = (memory : List ℕ) (board : Board) (why : Refusal) → memory_fits memory ≡ Err why → Judged memory board (Err why)
 
 abbrev pub BottomNext : Type 0
 BottomNext =
-    (memory : List ℕ) (board : Board) → memory_fits memory ≡ Accepted → length memory < board.bottom → Judged memory board (Refused BottomTooHigh)
+    (memory : List ℕ) (board : Board) → memory_fits memory ≡ Ok tt → length memory < board.bottom → Judged memory board (Err BottomTooHigh)
 
 -- ---- neither engine alters the words below the bottom
 
@@ -106,10 +104,10 @@ NoClockAsLevel =
 
 -- what is not turned down with a bottom is not turned down with the bottom at 0
 pub record LevelAccepted (memory : List ℕ) (board : Board) : Type 0 where
-  pub run : (position : ℕ) → run_verdict memory board position ≡ Accepted → run_verdict memory (level board) position ≡ Accepted
-  pub file : file_verdict memory board.bottom ≡ Accepted → file_verdict memory 0 ≡ Accepted
-  pub gate : (resets : List ℕ) (s : GateState) → gate_verdict memory board resets s ≡ Accepted
-      → gate_verdict memory (level board) resets s ≡ Accepted
+  pub run : (position : ℕ) → run_verdict memory board position ≡ Ok tt → run_verdict memory (level board) position ≡ Ok tt
+  pub file : file_verdict memory board.bottom ≡ Ok tt → file_verdict memory 0 ≡ Ok tt
+  pub gate : (resets : List ℕ) (s : GateState) → gate_verdict memory board resets s ≡ Ok tt
+      → gate_verdict memory (level board) resets s ≡ Ok tt
 
 abbrev pub AcceptedAsLevel : Type 0
 AcceptedAsLevel = (memory : List ℕ) (board : Board) → LevelAccepted memory board

@@ -1,11 +1,9 @@
 -- Why a call is turned down: the reasons' numbers, what a call leaves, the limits, and the first reason that applies to each run. Document
 -- 01, "Why a call is turned down"; CR 1, CR 3, CR 5, CR 6, CR 7 and CR 11.
-use Rattle.std.specs.Prelude.{ℕ, Bool, true, false, cond, ◌&&◌, List, eqb, ltb, leb, length}
+use Rattle.std.specs.Prelude.{ℕ, Bool, true, false, cond, ◌&&◌, List, eqb, ltb, leb, length, Ok, Err, Result}
 use Rattle.model.specs.declared.GateState.{GateState}
 use Rattle.model.specs.declared.Refusal.{Refusal}
 use Rattle.model.specs.declared.Refusal.TheVariants.{NoWords, TooManyWords, LongWaitList, BadGateState, ShortOutput, CutImage, WrongTag, WrongLength, WrongVersion, BadFlag, BadWordCount, ShortMemory, TrailingBytes, TooManyFiles, FileMisplaced, WordsMismatched, BottomTooHigh, ResetsNotRising}
-use Rattle.model.specs.declared.Verdict.{Verdict}
-use Rattle.model.specs.declared.Verdict.TheVariants.{Accepted, Refused}
 use Rattle.model.specs.Waits.{position_fits}
 use Rattle.model.specs.Board.{Board}
 use Rattle.model.specs.Resets.{rises}
@@ -31,15 +29,19 @@ refusal_number WordsMismatched = 18
 refusal_number BottomTooHigh = 21
 refusal_number ResetsNotRising = 22
 
+-- whether a call is carried out, or why not
+abbrev pub Verdict : Type 0
+Verdict = Result (Unit {0}) Refusal
+
 -- 0 for a call that is carried out
 abbrev pub verdict_number : Verdict → ℕ
-verdict_number Accepted = 0
-verdict_number (Refused why) = refusal_number why
+verdict_number (Ok u) = 0
+verdict_number (Err why) = refusal_number why
 
 -- what a call leaves of what it was lent: what it makes of it where it is carried out, or as it was
 abbrev pub left_by : Verdict → (made former : List ℕ) → List ℕ
-left_by Accepted made former = made
-left_by (Refused why) made former = former
+left_by (Ok u) made former = made
+left_by (Err why) made former = former
 
 abbrev pub most_words : ℕ
 most_words = 16_777_216
@@ -49,13 +51,13 @@ most_waits = 65_536
 
 -- refused unless something holds; of two verdicts the first refusal
 abbrev pub demand : Bool → Refusal → Verdict
-demand true why = Accepted
-demand false why = Refused why
+demand true why = Ok tt
+demand false why = Err why
 
 infixr 20 ◌then◌
 abbrev pub ◌then◌ : Verdict → Verdict → Verdict
-Accepted then v = v
-Refused why then v = Refused why
+Ok u then v = v
+Err why then v = Err why
 
 -- 1 and 2, of the memory that a run or the writer is lent
 abbrev pub memory_fits : List ℕ → Verdict

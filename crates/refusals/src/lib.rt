@@ -2,9 +2,9 @@
 #![tactic(auto)]
 
 ghost use Rattle.std.specs.Prelude.{◌≡◌};
-ghost use Rattle.model.specs.Refusals.{refusal_number, demand, ◌then◌, memory_fits};
+ghost use Rattle.model.specs.Refusals.{refusal_number, demand, memory_fits};
 
-use model::{Refusal, Verdict};
+use model::Refusal;
 
 // The most words of a memory.
 pub const MOST_WORDS: usize = 16_777_216;
@@ -36,33 +36,17 @@ pub fn refusal_number(why: Refusal) -> u32
 }
 
 // Refused unless something holds.
-pub fn demand(holds: bool, reason: Refusal) -> Verdict
+pub fn demand(holds: bool, reason: Refusal) -> Result<(), Refusal>
     ensures { result ≡ demand holds reason }
 {
-    if holds {
-        Verdict::Accepted
-    } else {
-        Verdict::Refused(reason)
-    }
-}
-
-// Of two verdicts the first refusal.
-pub fn then(first: Verdict, second: Verdict) -> Verdict
-    ensures { result ≡ first then second }
-{
-    match first {
-        Verdict::Accepted => second,
-        Verdict::Refused(why) => Verdict::Refused(why),
-    }
+    if holds { Ok(()) } else { Err(reason) }
 }
 
 // Reasons 1 and 2.
-pub fn memory_fits(memory: &[u32]) -> Verdict
+pub fn memory_fits(memory: &[u32]) -> Result<(), Refusal>
     ensures { result ≡ memory_fits memory.now }
 {
     let words = memory.len();
-    then(
-        demand(0 < words, Refusal::NoWords),
-        demand(words <= MOST_WORDS, Refusal::TooManyWords),
-    )
+    demand(0 < words, Refusal::NoWords)?;
+    demand(words <= MOST_WORDS, Refusal::TooManyWords)
 }

@@ -1,4 +1,6 @@
 -- The call: refused, taken back, carried out.
+use Rattle.traverses.specs.declared.TraverseEnding.{TraverseEnding}
+use Rattle.std.specs.Prelude.{Ok, Err}
 use Prim.Native.Nat.{ℕ, ◌+◌, ◌-◌, ◌^◌, ◌≤◌, ◌<◌}
 use mathlib.Core.Path.{◌≡◌, refl, sym, ap, ◌∙◌}
 use mathlib.Core.Bool.{Bool, true, false, not, cond, ◌&&◌, and-eq-true_iff}
@@ -9,13 +11,10 @@ use lib.ListN.{length}
 use borrow.Author.Tests.{eqb-false, not-true}
 use Rattle.model.specs.declared.Machine.{Machine}
 use Rattle.model.specs.declared.Refusal.{Refusal}
-use Rattle.model.specs.declared.Verdict.{Verdict}
-use Rattle.model.specs.declared.Verdict.TheVariants.{Accepted, Refused}
 use Rattle.model.specs.Journal.{Noted, completes}
-use Rattle.model.specs.Refusals.{verdict_number, left_by}
+use Rattle.model.specs.Refusals.{verdict_number, left_by, Verdict}
 use Rattle.journal.specs.Undo.{restored}
-use Rattle.traverses.specs.declared.TraverseAnswer.{TraverseAnswer}
-use Rattle.traverses.specs.declared.TraverseAnswer.TheVariants.{Marked, Finished}
+use Rattle.traverses.specs.declared.TraverseEnding.TheVariants.{Marked, Finished}
 use Rattle.traverses.specs.declared.TraverseResult.{TraverseResult}
 use Rattle.traverses.specs.Files.{files_in, parts}
 use Rattle.traverses.specs.Traverse.{Progress, pairs_before, taken_back, one_file, traversed}
@@ -25,12 +24,6 @@ use Rattle.file_list.proofs.Lists.{none_left}
 use Rattle.traverse.specs.declared.walk.Walk.{Walk}
 use Rattle.traverse.specs.Steps.{Goes}
 use Rattle.traverse.proofs.Turns.{At, t, u, n, goes_on, words_left, ran-is, full_is, counted_is, places-are, taken_is}
-
-answer-number : (version : ℕ) (p : Progress) (x y z : Bool) → eqb version 1 ≡ x → eqb p.undone 0 ≡ y → p.full ≡ z → traverse_number (traverse_answer version p) ≡ 0
-answer-number version p true y z e f g = rw e
-answer-number version p false true z e f g = rw (e, f)
-answer-number version p false false true e f g = rw (e, f, g)
-answer-number version p false false false e f g = rw (e, f, g)
 
 -- the answer of a progress that rule 2 has taken back, at its last file
 answer-two : (version : ℕ) (p : Progress) (i : ℕ) → eqb version 1 ≡ false → eqb p.undone 0 ≡ false → p.files - 1 ≡ i
@@ -57,21 +50,20 @@ module _ (memory : List ℕ) (bottom : ℕ) (journal load files : List ℕ) (sta
       }
 
 pub refused : {memory : List ℕ} {bottom : ℕ} {journal load files : List ℕ} {start : Machine} {version : ℕ} {v : Verdict}
-    → v ≡ traverse_verdict memory bottom load (files_in files) version → {why : Refusal} → v ≡ Refused why
-    → Traverses memory bottom journal load files start version memory journal (record { answer = TraverseAnswer.Refused why; machine = start; ran = 0; pairs = 0 })
+    → v ≡ traverse_verdict memory bottom load (files_in files) version → {why : Refusal} → v ≡ Err why
+    → Traverses memory bottom journal load files start version memory journal (record { answer = Err why; machine = start; ran = 0; pairs = 0 })
 refused {memory} {bottom} {journal} {load} {files} {start} {version} e {why} p =
-    as-traverse memory bottom journal load files start version (Refused why) (sym p ∙ e) refl refl refl refl
+    as-traverse memory bottom journal load files start version (Err why) (sym p ∙ e) refl refl refl refl
 
-module _ (memory : List ℕ) (bottom : ℕ) (journal load files : List ℕ) (start : Machine) (version : ℕ) (v : traverse_verdict memory bottom load (files_in files) version ≡ Accepted) where
+module _ (memory : List ℕ) (bottom : ℕ) (journal load files : List ℕ) (start : Machine) (version : ℕ) (v : traverse_verdict memory bottom load (files_in files) version ≡ Ok tt) where
   abbrev all : Progress
   all = whole_traverse memory bottom journal load files start version
 
   carried : {r : TraverseResult} {memory' journal' : List ℕ}
-      → r ≡ traverse_result Accepted version start all → memory' ≡ cond (taken_back version all) memory all.memory
+      → r ≡ traverse_result (Ok tt) version start all → memory' ≡ cond (taken_back version all) memory all.memory
       → journal' ≡ all.places → Traverses memory bottom journal load files start version memory' journal' r
   carried p q j =
-      as-traverse memory bottom journal load files start version Accepted (sym v) p q j
-      (answer-number version all (eqb version 1) (eqb all.undone 0) all.full refl refl refl)
+      as-traverse memory bottom journal load files start version (Ok tt) (sym v) p q j refl
 
   -- ---- after the last file
 
@@ -87,8 +79,8 @@ module _ (memory : List ℕ) (bottom : ℕ) (journal load files : List ℕ) (sta
         let z : all.undone ≡ 0 = ap (λ (p : Progress). p.undone) (sym is_all) ∙ a.none e in
         (rw (e, z), rw (e, z))
 
-    pub all-run : {answer : TraverseAnswer} → answer ≡ cond (eqb version 1) (Marked w.undone) Finished
-        → Traverses memory bottom journal load files start version memory' journal' (record { answer = answer; machine = w.machine; ran = w.ran; pairs = w.pairs })
+    pub all-run : {answer : TraverseEnding} → answer ≡ cond (eqb version 1) (Marked w.undone) Finished
+        → Traverses memory bottom journal load files start version memory' journal' (record { answer = Ok answer; machine = w.machine; ran = w.ran; pairs = w.pairs })
     all-run {answer} e =
         let (s, n) = stands (eqb version 1) refl in
         let answered : answer ≡ traverse_answer version all =
@@ -97,7 +89,7 @@ module _ (memory : List ℕ) (bottom : ℕ) (journal load files : List ℕ) (sta
         (rw s
         (λ k.
         record {
-          answer = answered k;
+          answer = Ok (answered k);
           machine = (a.machine ∙ ap (λ (p : Progress). p.machine) is_all) k;
           ran = (a.ran ∙ ap (λ (p : Progress). p.ran) is_all) k;
           pairs = (a.counted ∙ ap (λ (p : Progress). length p.pairs) is_all) k;
@@ -143,8 +135,8 @@ module _ (memory : List ℕ) (bottom : ℕ) (journal load files : List ℕ) (sta
         ∙ ap (λ (x : Bool). cond x noted.run.memory (restored (pairs_before version before) before.memory)) (undone-now (completes noted) refl)
         ∙ ap (λ (x : Bool). restored (cond x [] before.pairs) before.memory) two.0 ∙ a.restores two.0
 
-    pub taken : {answer : TraverseAnswer} → answer ≡ stopped_by r.full i
-        → Traverses memory bottom journal load files start version memory' journal' (record { answer = answer; machine = start; ran = r.ran; pairs = r.pairs })
+    pub taken : {answer : TraverseEnding} → answer ≡ stopped_by r.full i
+        → Traverses memory bottom journal load files start version memory' journal' (record { answer = Ok answer; machine = start; ran = r.ran; pairs = r.pairs })
     unfolding one_file
     taken {answer} q =
         let s : taken_back version all ≡ true = ap (taken_back version) (sym is_last) ∙ taken_is b a less h e in
@@ -155,7 +147,7 @@ module _ (memory : List ℕ) (bottom : ℕ) (journal load files : List ℕ) (sta
         (rw s
         (λ k.
         record {
-          answer = (answered ∙ ap (traverse_answer version) is_last) k;
+          answer = Ok ((answered ∙ ap (traverse_answer version) is_last) k);
           machine = start;
           ran = (ran-is b a less h ∙ ap (λ (p : Progress). p.ran) is_last) k;
           pairs = (counted_is b a less h ∙ ap (λ (p : Progress). length p.pairs) is_last) k;

@@ -6,34 +6,33 @@ mod lay;
 mod walk;
 
 ghost use Rattle.std.specs.Prelude.{◌≡◌, cond, eqb};
-ghost use Rattle.model.specs.declared.Verdict.TheVariants.{Accepted};
-ghost use Rattle.traverses.specs.declared.TraverseAnswer.TheVariants.{Marked, Finished};
+ghost use Rattle.traverses.specs.declared.TraverseEnding.TheVariants.{Marked, Finished};
 ghost use Rattle.traverses.specs.Files.{files_in};
 ghost use Rattle.traverses.specs.Calls.{stopped_by, traverse_verdict, Traverses};
 
 use file_list::{file_count, traverse_verdict};
-use model::{Machine, Verdict};
-use traverses::{TraverseAnswer, TraverseResult};
+use model::Machine;
+use traverses::{TraverseEnding, TraverseResult};
 use walk::{next, set_out};
 
 // What a traverse answers that is not taken back.
-fn ended(version: u32, undone: u64) -> TraverseAnswer
+fn ended(version: u32, undone: u64) -> TraverseEnding
     ensures { result ≡ cond (eqb version 1) (Marked undone) Finished }
 {
     if version == 1 {
-        return TraverseAnswer::Marked(undone);
+        return TraverseEnding::Marked(undone);
     }
-    TraverseAnswer::Finished
+    TraverseEnding::Finished
 }
 
 // The answer under rule 2 of a traverse that file i takes back.
-fn stopped(full: bool, i: u32) -> TraverseAnswer
+fn stopped(full: bool, i: u32) -> TraverseEnding
     ensures { result ≡ stopped_by full i }
 {
     if full {
-        return TraverseAnswer::Full(i);
+        return TraverseEnding::Full(i);
     }
-    TraverseAnswer::Undone(i)
+    TraverseEnding::Undone(i)
 }
 
 // All files. Under rule 2 the first that does not finish takes the traverse back: the journal that was taken back with it holds the pairs of the
@@ -47,7 +46,7 @@ fn carry_out(
     start: Machine,
     version: u32,
 ) -> TraverseResult
-    requires { traverse_verdict memory.old bottom words.now (files_in files.now) version ≡ Accepted }
+    requires { traverse_verdict memory.old bottom words.now (files_in files.now) version ≡ Ok tt }
     ensures { Traverses memory.old bottom journal.old words.now files.now start version memory.new journal.new result }
 {
     let mut map: [u32; 49_184] = [0; 49_184];
@@ -60,7 +59,7 @@ fn carry_out(
         );
         if (version != 1) & (w.undone != 0) {
             return TraverseResult {
-                answer: stopped(w.full, i as u32),
+                answer: Ok(stopped(w.full, i as u32)),
                 machine: start,
                 ran: w.ran,
                 pairs: w.pairs,
@@ -70,7 +69,7 @@ fn carry_out(
     }
     let machine = w.machine;
     TraverseResult {
-        answer: ended(version, w.undone),
+        answer: Ok(ended(version, w.undone)),
         machine,
         ran: w.ran,
         pairs: w.pairs,
@@ -91,12 +90,12 @@ pub fn traverse(
     ensures { Traverses memory.old bottom journal.old words.now files.now start version memory.new journal.new result }
 {
     match traverse_verdict(&*memory, bottom, words, files, version) {
-        Verdict::Refused(why) => TraverseResult {
-            answer: TraverseAnswer::Refused(why),
+        Err(why) => TraverseResult {
+            answer: Err(why),
             machine: start,
             ran: 0,
             pairs: 0,
         },
-        Verdict::Accepted => carry_out(memory, bottom, journal, words, files, start, version),
+        Ok(()) => carry_out(memory, bottom, journal, words, files, start, version),
     }
 }

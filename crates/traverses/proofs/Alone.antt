@@ -1,4 +1,5 @@
 -- Rule 1: the files that finish, run alone, are carried out and leave the same machine and memory.
+use Rattle.std.specs.Prelude.{Ok}
 use Prim.Native.Nat.{ℕ, ◌*◌, ◌/◌, ◌≤◌}
 use mathlib.Core.Path.{◌≡◌, refl, sym, ap, ap₂, ◌∙◌}
 use mathlib.Core.Bool.{Bool, true, false, cond, and-eq-true_iff}
@@ -7,12 +8,11 @@ use native.Mathlib.Omega.{arith}
 use lib.ListN.{length, take, drop, length-append, length-drop}
 use lib.Seq.{length-take-le, take_at, drop_at}
 use Rattle.model.specs.declared.Machine.{Machine}
-use Rattle.model.specs.declared.Verdict.TheVariants.{Accepted}
 use Rattle.model.specs.Journal.{room_in, completes}
 use Rattle.model.proofs.Cases.{pick}
 use Rattle.model.proofs.Verdicts.{accepted}
 use Rattle.traverses.specs.declared.TraverseResult.{TraverseResult}
-use Rattle.traverses.specs.declared.TraverseAnswer.TheVariants.{Marked}
+use Rattle.traverses.specs.declared.TraverseEnding.TheVariants.{Marked}
 use Rattle.traverses.specs.declared.File.{File}
 use Rattle.traverses.specs.Files.{files_from, files_in, Part, parts, sizes, placed, all_placed}
 use Rattle.traverses.specs.Traverse.{part_noted, Progress, set_out, file_noted, one_file, traversed}
@@ -129,7 +129,7 @@ module _ (memory : List ℕ) (bottom : ℕ) where
 
 -- ---- the calls
 
-module _ (memory : List ℕ) (bottom : ℕ) (journal load files : List ℕ) (start : Machine) (v : traverse_verdict memory bottom load (files_in files) 1 ≡ Accepted)
+module _ (memory : List ℕ) (bottom : ℕ) (journal load files : List ℕ) (start : Machine) (v : traverse_verdict memory bottom load (files_in files) 1 ≡ Ok tt)
     (other : List ℕ) (long : room_in other ≡ room_in journal) where
   abbrev room : ℕ
   room = room_in journal
@@ -140,7 +140,7 @@ module _ (memory : List ℕ) (bottom : ℕ) (journal load files : List ℕ) (sta
   some : Some (files_in files) memory bottom done
   some = some_of memory bottom room (files_in files) load (bounded memory bottom load (files_in files) 1 v).laid (set_out start memory journal)
 
-  carried : traverse_verdict memory bottom (loads done) (files_in (flat done)) 1 ≡ Accepted
+  carried : traverse_verdict memory bottom (loads done) (files_in (flat done)) 1 ≡ Ok tt
   carried =
       let b = bounded memory bottom load (files_in files) 1 v in
       rw (files-are done)
@@ -169,7 +169,7 @@ finishing-alone memory bottom journal load files start memory' journal' r c take
     let first = returned memory bottom journal load files start 1 v c in
     let second = returned memory bottom other (loads d) (flat d) start 1 w c₂ in
     record {
-      none = ap (λ (x : TraverseResult). x.answer) second ∙ ap Marked e.none;
+      none = ap (λ (x : TraverseResult). x.answer) second ∙ ap (λ (n : ℕ). Ok (Marked n)) e.none;
       machine = ap (λ (x : TraverseResult). x.machine) second ∙ e.machine ∙ sym (ap (λ (x : TraverseResult). x.machine) first);
       memory = left_in memory bottom other (loads d) (flat d) start 1 w c₂ ∙ e.memory ∙ sym (left_in memory bottom journal load files start 1 v c);
     }

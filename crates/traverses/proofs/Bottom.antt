@@ -1,5 +1,6 @@
 -- CR 6: a traverse keeps the words below the bottom: none is laid there, and no program's store alters them; and where none is stored there, it
 -- does what it does with the bottom at 0.
+use Rattle.std.specs.Prelude.{Ok, Err}
 use Prim.Native.Nat.{ℕ, ◌+◌, ◌≤◌}
 use mathlib.Core.Path.{◌≡◌, refl, sym, ap, ◌∙◌}
 use mathlib.Core.Bool.{Bool, true, false, cond, ◌||◌, and-eq-true_iff}
@@ -9,13 +10,11 @@ use lib.Dec.{eqb, leb-zero}
 use lib.ListN.{length, take, drop}
 use lib.Seq.{take-set-le}
 use borrow.Author.Tests.{leb-true, eqb-true}
-use Rattle.model.specs.declared.Verdict.{Verdict}
-use Rattle.model.specs.declared.Verdict.TheVariants.{Accepted, Refused}
 use Rattle.model.specs.declared.Machine.{Machine}
 use Rattle.model.specs.Bottom.{never_stores_below}
 use Rattle.model.specs.Interpreter.{Run, advance, interpret}
 use Rattle.model.specs.Journal.{Pair, Noted, room_in, run_one, run_noted, completes}
-use Rattle.model.specs.Refusals.{left_by}
+use Rattle.model.specs.Refusals.{left_by, Verdict}
 use Rattle.model.proofs.Cases.{pick}
 use Rattle.model.proofs.Journals.{by-room, run-keeps}
 use Rattle.model.proofs.Bottom.{run-keeps-bottom, run-as-level}
@@ -94,8 +93,8 @@ traverse_keeps_bottom memory bottom journal load files start version memory' jou
 
     go : (v : Verdict) → verdict_here memory bottom journal load files start version ≡ v
         → take bottom (left_by v (cond (taken_back version t) memory t.memory) memory) ≡ take bottom memory
-    go (Refused why) e = refl
-    go Accepted e =
+    go (Err why) e = refl
+    go (Ok u) e =
         pick (λ (m : List ℕ). take bottom m ≡ take bottom memory) (taken_back version t) refl
         (all_keep bottom (room_in journal) version (files_in files) load memory (bounded memory bottom load (files_in files) version e).placed
         (set_out start memory journal))
@@ -170,7 +169,7 @@ traverse_as_level memory bottom journal load files start version never memory' j
     let fs = files_in files in
     let v = accepted (verdict_here memory bottom journal load files start version) (sym c.number ∙ z) in
     let b = bounded memory bottom load fs version v in
-    let v₂ : traverse_verdict memory 0 load fs version ≡ Accepted =
+    let v₂ : traverse_verdict memory 0 load fs version ≡ Ok tt =
     accepts memory 0 load fs version
     (record {
       lent = b.lent;
@@ -183,7 +182,7 @@ traverse_as_level memory bottom journal load files start version never memory' j
     (has-rule memory bottom load fs version v) in
     let same : whole_traverse memory bottom journal load files start version ≡ whole_traverse memory 0 journal load files start version =
     same-files bottom version (room_in journal) (parts fs load) (set_out start memory journal) never in (
-      returned memory bottom journal load files start version v c ∙ ap (traverse_result Accepted version start) same
+      returned memory bottom journal load files start version v c ∙ ap (traverse_result (Ok tt) version start) same
           ∙ sym (returned memory 0 journal load files start version v₂ c₂),
       left_in memory bottom journal load files start version v c ∙ ap (λ (t : Progress). cond (taken_back version t) memory t.memory) same
           ∙ sym (left_in memory 0 journal load files start version v₂ c₂),

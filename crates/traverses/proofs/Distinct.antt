@@ -1,4 +1,5 @@
 -- No address stands twice among the pairs that a file run or a traverse leaves in the journal, and the pairs have room.
+use Rattle.std.specs.Prelude.{Ok, Err}
 use Prim.Native.Nat.{ℕ, zero, suc, ◌*◌, ◌≤◌, ◌<◌}
 use mathlib.Core.Path.{◌≡◌, refl, sym, ap, ◌∙◌}
 use mathlib.Core.Bool.{Bool, true, false, not, ◌&&◌, ◌||◌, true≢false}
@@ -7,11 +8,9 @@ use native.Mathlib.Omega.{arith}
 use lib.Dec.{eqb}
 use lib.ListN.{length}
 use borrow.Author.Tests.{eq-eqb}
-use Rattle.model.specs.declared.Verdict.{Verdict}
-use Rattle.model.specs.declared.Verdict.TheVariants.{Accepted, Refused}
 use Rattle.model.specs.Words.{word_at, overlay}
 use Rattle.model.specs.Journal.{Pair, has_pair, Noted, run_one, run_noted, room_in, journal_words}
-use Rattle.model.specs.Refusals.{left_by, file_verdict}
+use Rattle.model.specs.Refusals.{left_by, file_verdict, Verdict}
 use Rattle.model.proofs.Journals.{by-room, run-keeps, room-kept}
 use Rattle.interpreter.specs.Calls.{file_board, file_result, whole_file, file_returned, file_places}
 use Rattle.traverses.specs.Files.{parts, files_in}
@@ -95,10 +94,10 @@ file-distinct memory bottom journal start count memory' journal' r c =
     k = whole_file memory bottom journal start count
 
     by : (v : Verdict) → Distinct journal (left_by v (overlay (journal_words k.pairs) journal) journal) (file_result v start k).pairs
-    by Accepted =
+    by (Ok u) =
         places-distinct journal _ k.pairs (run-distinct bottom (room_in journal) count _ refl)
         (room-kept (file_board bottom) (room_in journal) count _ (omega arith))
-    by (Refused why) = none-distinct journal journal
+    by (Err why) = none-distinct journal journal
 
 pub traverse_distinct : TraverseDistinct
 unfolding traverse_returned traverse_places distinct journal_words
@@ -115,11 +114,11 @@ traverse_distinct memory bottom journal load files start version memory' journal
     leads = traverse_leads bottom version (room_in journal) (parts (files_in files) load) out (record { rest = journal; same = refl })
 
     by : (v : Verdict) → Distinct journal (left_by v t.places journal) (traverse_result v version start t).pairs
-    by Accepted =
+    by (Ok u) =
         rw leads.same
         (places-distinct journal leads.rest t.pairs
         (traverse_keeps bottom (room_in journal) (λ (ps : List Pair). distinct ps ≡ true) (λ pairs stores _. noting-distinct stores pairs) refl version
         (parts (files_in files) load) out refl)
         (traverse_keeps bottom (room_in journal) (λ (ps : List Pair). length ps ≤ room_in journal) (λ pairs stores fits _. fits) (omega arith) version
         (parts (files_in files) load) out (omega arith)))
-    by (Refused why) = none-distinct journal journal
+    by (Err why) = none-distinct journal journal

@@ -1,4 +1,6 @@
 -- When the journal is full.
+use Rattle.interpreter.specs.declared.FileEnding.{FileEnding}
+use Rattle.std.specs.Prelude.{Ok, Err}
 use Prim.Native.Nat.{ℕ, zero, suc, ◌+◌, ◌≤◌, ◌<◌}
 use mathlib.Core.Path.{◌≡◌, refl, sym, ap, ◌∙◌}
 use mathlib.Core.Bool.{Bool, true, false, not, cond, ◌&&◌, true≢false}
@@ -8,18 +10,15 @@ use lib.Dec.{leb}
 use lib.ListN.{length, length-append}
 use borrow.Author.Tests.{leb-true, leb-false, le-leb, lt-leb}
 use Rattle.model.specs.declared.Machine.{Machine}
-use Rattle.model.specs.declared.Verdict.{Verdict}
-use Rattle.model.specs.declared.Verdict.TheVariants.{Accepted, Refused}
 use Rattle.model.specs.Words.{word_at}
 use Rattle.model.specs.Board.{Board}
 use Rattle.model.specs.Interpreter.{goes_on, Run, begin, address_b, next_runs, alters_memory, execute, stop, advance, interpret}
 use Rattle.model.specs.Journal.{Pair, stored_by, has_pair, noting, Noted, within, fresh, room_in, run_one, run_noted}
-use Rattle.model.specs.Refusals.{file_verdict}
+use Rattle.model.specs.Refusals.{file_verdict, Verdict}
 use Rattle.model.proofs.Cases.{onward}
 use Rattle.model.proofs.Runs.{one_more}
 use Rattle.model.proofs.Journals.{by-room, full-stays, not-full-run, room-kept}
 use Rattle.model.proofs.Verdicts.{accepted}
-use Rattle.interpreter.specs.declared.FileAnswer.{FileAnswer}
 use Rattle.interpreter.specs.declared.FileResult.{FileResult}
 use Rattle.interpreter.specs.Calls.{file_board, file_result, whole_file, file_returned}
 use Rattle.traverses.specs.Traverse.{lay_one}
@@ -133,14 +132,14 @@ module _ (memory : List ℕ) (bottom room : ℕ) (start : Machine) (i : ℕ) whe
   needs-here none = full-when bottom room here none (room-kept (file_board bottom) room i (fresh (begin start memory 0) []) (omega arith))
 
 -- "journal full" tells that the run was carried out
-told-full : (v : Verdict) (start : Machine) (k : Noted) → (file_result v start k).answer ≡ FileAnswer.Full → (v ≡ Accepted) × (k.full ≡ true)
-told-full (Refused why) start k e = (cc, cc)
-told-full Accepted start k e = go k.full refl (goes_on k.run.ending) refl
+told-full : (v : Verdict) (start : Machine) (k : Noted) → (file_result v start k).answer ≡ Ok FileEnding.Full → (v ≡ Ok tt) × (k.full ≡ true)
+told-full (Err why) start k e = (cc, cc)
+told-full (Ok u) start k e = (refl, go k.full refl (goes_on k.run.ending) refl)
   where
-    go : (f : Bool) → k.full ≡ f → (g : Bool) → goes_on k.run.ending ≡ g → (Accepted ≡ Accepted) × (k.full ≡ true)
-    go true p g q = (refl, p)
-    go false p true q = let z = rw (p, q) at e in (refl, cc)
-    go false p false q = let z = rw (p, q) at e in (refl, cc)
+    go : (f : Bool) → k.full ≡ f → (g : Bool) → goes_on k.run.ending ≡ g → k.full ≡ true
+    go true p g q = p
+    go false p true q = let z = rw (p, q) at e in cc
+    go false p false q = let z = rw (p, q) at e in cc
 
 pub full-then : FullThen
 unfolding file_returned

@@ -1,4 +1,5 @@
 -- Bit i of the mask marks undone file i.
+use Rattle.std.specs.Prelude.{Ok}
 use Prim.Native.Nat.{ℕ, zero, suc, ◌+◌, ◌-◌, ◌*◌, ◌/◌, ◌%◌, ◌^◌, ◌<◌}
 use mathlib.Core.Path.{◌≡◌, refl, sym, ap, ◌∙◌}
 use mathlib.Core.Bool.{Bool, true, false, not, cond}
@@ -11,7 +12,7 @@ use lib.ListN.{get_or}
 use lib.Pow.{pow-add, pow_mono, pow_pos, high}
 use Rattle.model.specs.Words.{field, bit}
 use Rattle.model.specs.Journal.{room_in, completes}
-use Rattle.traverses.specs.declared.TraverseAnswer.TheVariants.{Marked}
+use Rattle.traverses.specs.declared.TraverseEnding.TheVariants.{Marked}
 use Rattle.traverses.specs.declared.TraverseResult.{TraverseResult}
 use Rattle.traverses.specs.Files.{Part, parts, files_in}
 use Rattle.traverses.specs.Traverse.{Progress, set_out, file_noted, one_file, traversed}
@@ -107,7 +108,7 @@ unfolding traverse_returned
 mask-tells memory bottom journal load files start memory' journal' r c mask e i =
     let t = whole_traverse memory bottom journal load files start 1 in
     let told = sym (ap (λ (x : TraverseResult). x.answer) c.result) ∙ e in
-    let v = carried-out (verdict_here memory bottom journal load files start 1) 1 start t (Marked mask) told refl in
+    let v = carried-out (verdict_here memory bottom journal load files start 1) 1 start t (Ok (Marked mask)) told refl in
     let q = returned memory bottom journal load files start 1 v c in
     let same : t.undone ≡ mask = ap mask_of (sym (ap (λ (x : TraverseResult). x.answer) q) ∙ e) in
     ap (λ (n : ℕ). bit n i) (sym same) ∙ ap (bit t.undone) (sym (zero-add i))

@@ -1,4 +1,7 @@
 -- A file run is a traverse of one file.
+use Rattle.model.specs.declared.Refusal.{Refusal}
+use Rattle.interpreter.specs.declared.FileEnding.{FileEnding}
+use Rattle.std.specs.Prelude.{Ok, Err, Result}
 use Prim.Native.Nat.{ℕ}
 use mathlib.Core.Path.{◌≡◌, refl, sym, ap, ◌∙◌}
 use mathlib.Core.Bool.{Bool, true, false, cond}
@@ -9,14 +12,11 @@ use lib.ListN.{length}
 use lib.Seq.{set-get_or}
 use borrow.Author.Tests.{le-leb}
 use Rattle.model.specs.declared.Machine.{Machine}
-use Rattle.model.specs.declared.Verdict.{Verdict}
-use Rattle.model.specs.declared.Verdict.TheVariants.{Accepted, Refused}
 use Rattle.model.specs.Words.{overlay}
 use Rattle.model.specs.Interpreter.{goes_on}
 use Rattle.model.specs.Journal.{Pair, Noted, completes, journal_words}
-use Rattle.model.specs.Refusals.{left_by, file_verdict}
+use Rattle.model.specs.Refusals.{left_by, file_verdict, Verdict}
 use Rattle.model.proofs.Verdicts.{then_accepted}
-use Rattle.interpreter.specs.declared.FileAnswer.{FileAnswer}
 use Rattle.interpreter.specs.Calls.{file_result, memory_end, file_number, whole_file, file_returned, file_words, file_places}
 use Rattle.traverses.specs.Files.{files_from, files_in, parts, sizes, all_placed}
 use Rattle.traverses.specs.Traverse.{lay_all, part_laid, part_noted, Progress, taken_back, one_file, traversed}
@@ -45,7 +45,7 @@ module _ (version : ℕ) (start : Machine) (memory journal : List ℕ) (k : Note
       (traverse_result v version start t ≡ as_traverse version (file_result v start k))
       × (left_by v (cond (taken_back version t) memory t.memory) memory ≡ left_by v (memory_end memory k) memory)
 
-  same_end : (full done one : Bool) → k.full ≡ full → goes_on k.run.ending ≡ done → eqb version 1 ≡ one → Same Accepted
+  same_end : (full done one : Bool) → k.full ≡ full → goes_on k.run.ending ≡ done → eqb version 1 ≡ one → Same (Ok tt)
   same_end true done true e f g = (rw (e, g), rw (e, g))
   same_end true done false e f g = (rw (e, g), rw (e, g))
   same_end false true true e f g = (rw (e, f, g), rw (e, f, g))
@@ -54,8 +54,8 @@ module _ (version : ℕ) (start : Machine) (memory journal : List ℕ) (k : Note
   same_end false false false e f g = (rw (e, f, g), rw (e, f, g))
 
   same_by : (v : Verdict) → Same v
-  same_by Accepted = same_end k.full (goes_on k.run.ending) (eqb version 1) refl refl refl
-  same_by (Refused why) = (refl, refl)
+  same_by (Ok u) = same_end k.full (goes_on k.run.ending) (eqb version 1) refl refl refl
+  same_by (Err why) = (refl, refl)
 
 either : {A : Type 0} (b : Bool) (x : A) → cond b x x ≡ x
 either true x = refl
@@ -72,14 +72,11 @@ module _ (memory : List ℕ) (bottom : ℕ) (journal : List ℕ) (start : Machin
       let t = ended start memory journal (whole_file memory bottom journal start count) in
       rw (set-get_or start.regs 0 0, either {A = List Pair} (eqb version 1) []) (either (taken_back version t) t)
 
-same_number : (version : ℕ) (a : FileAnswer) (b : Bool) → eqb version 1 ≡ b → traverse_number (as_answer version a) ≡ file_number a
-same_number version FileAnswer.Finished true k = rw k
-same_number version FileAnswer.Finished false k = rw k
-same_number version FileAnswer.Undone true k = rw k
-same_number version FileAnswer.Undone false k = rw k
-same_number version FileAnswer.Full true k = rw k
-same_number version FileAnswer.Full false k = rw k
-same_number version (FileAnswer.Refused why) b k = refl
+same_number : (version : ℕ) (a : Result FileEnding Refusal) → traverse_number (as_answer version a) ≡ file_number a
+same_number version (Ok FileEnding.Finished) = refl
+same_number version (Ok FileEnding.Undone) = refl
+same_number version (Ok FileEnding.Full) = refl
+same_number version (Err why) = refl
 
 pub one-file-traverse : OneFileTraverse
 unfolding traverse_returned traverse_words traverse_places file_returned file_words file_places
@@ -91,5 +88,5 @@ one-file-traverse memory bottom journal start count version known memory' journa
       result = rw (v, w) (ap (as_traverse version) c.result ∙ sym a);
       words = rw (v, w) (c.words ∙ sym m);
       places = rw (v, w) c.places;
-      number = rw v (same_number version r.answer (eqb version 1) refl ∙ c.number);
+      number = rw v (same_number version r.answer ∙ c.number);
     }

@@ -1,4 +1,5 @@
 -- The pairs of a file and of a traverse, taken back, give the memory before.
+use Rattle.std.specs.Prelude.{Ok, Err}
 use Prim.Native.Nat.{ℕ, ◌+◌, ◌^◌}
 use mathlib.Core.Path.{◌≡◌, refl, sym, ap, ap₂, ◌∙◌}
 use mathlib.Core.Bool.{Bool, true, false, cond}
@@ -9,11 +10,9 @@ use lib.ListN.{length, drop}
 use lib.Pow.{pow_pos}
 use borrow.Author.Tests.{ne_eqb}
 use Rattle.model.specs.declared.Machine.{Machine}
-use Rattle.model.specs.declared.Verdict.{Verdict}
-use Rattle.model.specs.declared.Verdict.TheVariants.{Accepted, Refused}
 use Rattle.model.specs.Words.{overlay}
 use Rattle.model.specs.Journal.{Pair, Noted, completes, journal_words}
-use Rattle.model.specs.Refusals.{left_by, file_verdict}
+use Rattle.model.specs.Refusals.{left_by, file_verdict, Verdict}
 use Rattle.model.proofs.Cases.{pick}
 use Rattle.model.proofs.Journals.{by-room}
 use Rattle.journal.specs.Undo.{undone, restored}
@@ -71,8 +70,8 @@ file-restores memory bottom journal start count memory' journal' r c =
   where
     by : (v : Verdict) (k : Noted) → restored k.pairs (memory_end memory k) ≡ memory
         → undone (file_result v start k).pairs (left_by v (overlay (journal_words k.pairs) journal) journal) (left_by v (memory_end memory k) memory) ≡ memory
-    by Accepted k e = undone-restores k.pairs _ _ ∙ e
-    by (Refused why) k e = refl
+    by (Ok u) k e = undone-restores k.pairs _ _ ∙ e
+    by (Err why) k e = refl
 
 -- ---- a traverse
 
@@ -134,7 +133,7 @@ journal-restores memory bottom journal load files start version two memory' jour
     by : (v : Verdict) (t : Progress) → Leads t → restored t.pairs (cond (taken_back version t) memory t.memory) ≡ memory
         → undone (traverse_result v version start t).pairs (left_by v t.places journal) (left_by v (cond (taken_back version t) memory t.memory) memory)
         ≡ memory
-    by Accepted t l e =
+    by (Ok u) t l e =
         ap (λ (j : List ℕ). undone (length t.pairs) j (cond (taken_back version t) memory t.memory)) l.same
         ∙ undone-restores t.pairs l.rest _ ∙ e
-    by (Refused why) t l e = refl
+    by (Err why) t l e = refl

@@ -1,5 +1,7 @@
 -- A file whose journal is not full does what it did before CR 11; with room for a pair for each word and instruction no journal is full, and the
 -- traverse answers, leaves and counts as before.
+use Rattle.std.specs.Prelude.{Ok}
+use Rattle.traverses.specs.declared.TraverseEnding.{TraverseEnding}
 use Prim.Native.Nat.{ℕ, suc, ◌+◌, ◌≤◌}
 use mathlib.Core.Path.{◌≡◌, refl, sym, ap, ap₂, ◌∙◌}
 use mathlib.Core.Bool.{Bool, true, false, not, cond, ◌&&◌, true≢false}
@@ -196,7 +198,7 @@ traverse_as_plain memory bottom journal load files start version room memory' jo
     (record { machine = refl; memory = refl; files = refl; undone = refl; ran = refl; full = refl; firsts = λ _. refl }) (omega arith) in
     let q = returned memory bottom journal load files start version v c in
     record {
-      answer = ap (λ (x : TraverseResult). x.answer) q ∙ same_answer version w t a (eqb version 1) (eqb t.undone 0) refl refl;
+      answer = ap (λ (x : TraverseResult). x.answer) q ∙ ap (λ (x : TraverseEnding). Ok x) (same_answer version w t a (eqb version 1) (eqb t.undone 0) refl refl);
       machine = ap (λ (x : TraverseResult). x.machine) q ∙ same_kept version w t a start w.machine t.machine a.machine;
       words = left_in memory bottom journal load files start version v c ∙ same_kept version w t a memory w.memory t.memory a.memory;
       ran = ap (λ (x : TraverseResult). x.ran) q ∙ a.ran;

@@ -1,5 +1,9 @@
 -- Rule 2: a traverse that is undone, or whose journal is full, leaves its start and names its first file that does not finish; and where no file
 -- is undone under either rule, the rules agree.
+use Rattle.model.specs.declared.Refusal.{Refusal}
+use Rattle.model.specs.Refusals.{Verdict}
+use Rattle.traverses.specs.declared.TraverseEnding.{TraverseEnding}
+use Rattle.std.specs.Prelude.{Ok, Err, Result}
 use Prim.Native.Nat.{ℕ, zero, suc, ◌+◌, ◌-◌, ◌^◌, ◌≤◌, ◌<◌}
 use mathlib.Core.Path.{◌≡◌, refl, sym, ap, ap₂, ◌∙◌}
 use mathlib.Core.Bool.{Bool, true, false, cond, true≢false, and-eq-true_iff}
@@ -10,14 +14,11 @@ use lib.ListN.{get_or}
 use lib.Pow.{pow_pos}
 use borrow.Author.Tests.{eqb-true, ne_eqb, not-true}
 use Rattle.model.specs.declared.Machine.{Machine}
-use Rattle.model.specs.declared.Verdict.{Verdict}
-use Rattle.model.specs.declared.Verdict.TheVariants.{Accepted, Refused}
 use Rattle.model.specs.Interpreter.{Run}
 use Rattle.model.specs.Journal.{Noted, room_in, completes}
 use Rattle.model.proofs.Cases.{pick}
 use Rattle.model.proofs.Verdicts.{accepted}
-use Rattle.traverses.specs.declared.TraverseAnswer.{TraverseAnswer}
-use Rattle.traverses.specs.declared.TraverseAnswer.TheVariants.{Marked, Finished, Undone, Full}
+use Rattle.traverses.specs.declared.TraverseEnding.TheVariants.{Marked, Finished, Undone, Full}
 use Rattle.traverses.specs.declared.TraverseResult.{TraverseResult}
 use Rattle.traverses.specs.Files.{Part, parts, files_in}
 use Rattle.traverses.specs.Traverse.{Progress, set_out, taken_back, file_noted, one_file, traversed}
@@ -28,40 +29,43 @@ use Rattle.traverses.proofs.Reasons.{returned, left_in}
 use Rattle.traverses.proofs.Plain.{part_plain}
 
 -- an answer of the traverse itself tells that it was carried out
-pub carried-out : (v : Verdict) (version : ℕ) (start : Machine) (t : Progress) (a : TraverseAnswer) → (traverse_result v version start t).answer ≡ a → traverse_number a ≡ 0
-    → v ≡ Accepted
-carried-out Accepted version start t a e z = refl
-carried-out (Refused why) version start t a e z = accepted (Refused why) (ap traverse_number e ∙ z)
+pub carried-out : (v : Verdict) (version : ℕ) (start : Machine) (t : Progress) (a : Result TraverseEnding Refusal) → (traverse_result v version start t).answer ≡ a → traverse_number a ≡ 0
+    → v ≡ Ok tt
+carried-out (Ok u) version start t a e z = refl
+carried-out (Err why) version start t a e z = accepted (Err why) (ap traverse_number e ∙ z)
 
 -- the mask that an answer has
-abbrev pub mask_of : TraverseAnswer → ℕ
-mask_of (Marked n) = n
-mask_of Finished = 0
-mask_of (Undone n) = 0
-mask_of (Full n) = 0
-mask_of (TraverseAnswer.Refused why) = 0
+abbrev pub mask_of : Result TraverseEnding Refusal → ℕ
+mask_of (Ok (Marked n)) = n
+mask_of (Ok Finished) = 0
+mask_of (Ok (Undone n)) = 0
+mask_of (Ok (Full n)) = 0
+mask_of (Err why) = 0
+
+-- the ending that an answer tells
+abbrev ending_of : Result TraverseEnding Refusal → TraverseEnding
+ending_of (Ok ending) = ending
+ending_of (Err why) = Finished
 
 -- ---- rule 2
 
 -- the number of the file that stopped it
-abbrev file_of : TraverseAnswer → ℕ
+abbrev file_of : TraverseEnding → ℕ
 file_of (Marked n) = 0
 file_of Finished = 0
 file_of (Undone n) = n
 file_of (Full n) = n
-file_of (TraverseAnswer.Refused why) = 0
 
--- whether an answer names one
-abbrev named : TraverseAnswer → Bool
+-- whether an ending names one
+abbrev named : TraverseEnding → Bool
 named (Marked n) = false
 named Finished = false
 named (Undone n) = true
 named (Full n) = true
-named (TraverseAnswer.Refused why) = false
 
-file-of : (full : Bool) (file : ℕ) → (file_of (stopped_by full file) ≡ file) × (named (stopped_by full file) ≡ true) × (traverse_number (stopped_by full file) ≡ 0)
-file-of true file = (refl, refl, refl)
-file-of false file = (refl, refl, refl)
+file-of : (full : Bool) (file : ℕ) → (file_of (stopped_by full file) ≡ file) × (named (stopped_by full file) ≡ true)
+file-of true file = (refl, refl)
+file-of false file = (refl, refl)
 
 -- "undone" and "journal full" tell that the traverse was taken back at its last file
 undone-at : (version : ℕ) (t : Progress) (full : Bool) (file : ℕ) → traverse_answer version t ≡ stopped_by full file
@@ -121,9 +125,9 @@ undone-keeps-start memory bottom journal load files start version memory' journa
     let t = whole_traverse memory bottom journal load files start version in
     let verdict = verdict_here memory bottom journal load files start version in
     let told = sym (ap (λ (x : TraverseResult). x.answer) c.result) ∙ e in
-    let v = carried-out verdict version start t (stopped_by full file) told (file-of full file).2 in
+    let v = carried-out verdict version start t (Ok (stopped_by full file)) told refl in
     let q = returned memory bottom journal load files start version v c in
-    let (back, at) = undone-at version t full file (sym (ap (λ (x : TraverseResult). x.answer) q) ∙ e) in
+    let (back, at) = undone-at version t full file (ap ending_of (sym (ap (λ (x : TraverseResult). x.answer) q) ∙ e)) in
     let two = not-true (eqb version 1) ((and-eq-true_iff _ _).0 back).0 in
     let s = stops bottom version (room_in journal) two (parts (files_in files) load) (set_out start memory journal) refl back in
     let here : t.files - 0 - 1 ≡ file = omega (arith, at) in
@@ -217,13 +221,13 @@ unfolding traverse_returned
 rules_agree memory bottom journal load files start memory' journal' r c e memory'' journal'' r₂ c₂ e₂ =
     let t = whole_traverse memory bottom journal load files start 1 in
     let t₂ = whole_traverse memory bottom journal load files start 2 in
-    let answer : TraverseResult → TraverseAnswer = λ x. x.answer in
-    let v = carried-out (verdict_here memory bottom journal load files start 1) 1 start t (Marked 0) (sym (ap answer c.result) ∙ e) refl in
-    let v₂ = carried-out (verdict_here memory bottom journal load files start 2) 2 start t₂ Finished (sym (ap answer c₂.result) ∙ e₂) refl in
+    let answer : TraverseResult → Result TraverseEnding Refusal = λ x. x.answer in
+    let v = carried-out (verdict_here memory bottom journal load files start 1) 1 start t (Ok (Marked 0)) (sym (ap answer c.result) ∙ e) refl in
+    let v₂ = carried-out (verdict_here memory bottom journal load files start 2) 2 start t₂ (Ok Finished) (sym (ap answer c₂.result) ∙ e₂) refl in
     let q = returned memory bottom journal load files start 1 v c in
     let q₂ = returned memory bottom journal load files start 2 v₂ c₂ in
     let none : t.undone ≡ 0 = ap mask_of (sym (ap answer q) ∙ e) in
-    let none₂ : t₂.undone ≡ 0 = none-undone t₂ (sym (ap answer q₂) ∙ e₂) in
+    let none₂ : t₂.undone ≡ 0 = none-undone t₂ (ap ending_of (sym (ap answer q₂) ∙ e₂)) in
     let on : taken_back 2 t₂ ≡ false = rw none₂ in
     let out = set_out start memory journal in
     let s = agree bottom (room_in journal) (parts (files_in files) load) out out (record { machine = refl; memory = refl; ran = refl }) none none₂ in (

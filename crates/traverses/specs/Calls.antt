@@ -1,14 +1,13 @@
 -- CR 1: the call `traverse`: its result, the memory and the journal at exit, carried out or turned down. CR 11: "journal full"; 5 and 6 are
 -- given no longer.
-use Rattle.std.specs.Prelude.{ℕ, ◌-◌, ◌≡◌, Bool, cond, ◌||◌, List, eqb, leb, length}
+use Rattle.model.specs.declared.Refusal.{Refusal}
+use Rattle.traverses.specs.declared.TraverseEnding.{TraverseEnding}
+use Rattle.std.specs.Prelude.{ℕ, ◌-◌, ◌≡◌, Bool, cond, ◌||◌, List, eqb, leb, length, Ok, Err, Result}
 use Rattle.model.specs.declared.Machine.{Machine}
 use Rattle.model.specs.declared.Refusal.TheVariants.{WrongVersion, TooManyFiles, FileMisplaced, WordsMismatched}
-use Rattle.model.specs.declared.Verdict.{Verdict}
-use Rattle.model.specs.declared.Verdict.TheVariants.{Accepted, Refused}
 use Rattle.model.specs.Journal.{room_in}
-use Rattle.model.specs.Refusals.{refusal_number, verdict_number, left_by, demand, ◌then◌, file_verdict}
-use Rattle.traverses.specs.declared.TraverseAnswer.{TraverseAnswer}
-use Rattle.traverses.specs.declared.TraverseAnswer.TheVariants.{Marked, Finished, Undone, Full}
+use Rattle.model.specs.Refusals.{refusal_number, verdict_number, left_by, demand, ◌then◌, file_verdict, Verdict}
+use Rattle.traverses.specs.declared.TraverseEnding.TheVariants.{Marked, Finished, Undone, Full}
 use Rattle.traverses.specs.declared.TraverseResult.{TraverseResult}
 use Rattle.traverses.specs.declared.File.{File}
 use Rattle.traverses.specs.Files.{files_in, parts, sizes, all_placed}
@@ -41,32 +40,29 @@ traverse_verdict memory bottom load files version =
 -- ---- what is answered
 
 -- under rule 1 the mask; under rule 2 "finished", or "undone" or "journal full" with the number of the file, which is the last that was run
-abbrev pub stopped_by : (full : Bool) → (file : ℕ) → TraverseAnswer
+abbrev pub stopped_by : (full : Bool) → (file : ℕ) → TraverseEnding
 stopped_by full file = cond full (Full file) (Undone file)
 
-abbrev pub traverse_answer : (version : ℕ) → Progress → TraverseAnswer
+abbrev pub traverse_answer : (version : ℕ) → Progress → TraverseEnding
 traverse_answer version t =
     cond (eqb version 1) (Marked t.undone) (cond (eqb t.undone 0) Finished (stopped_by t.full (t.files - 1)))
 
 -- a traverse that is taken back, or turned down, returns its start
 abbrev pub traverse_result : Verdict → (version : ℕ) → Machine → Progress → TraverseResult
-traverse_result Accepted version start t =
+traverse_result (Ok u) version start t =
     record {
-      answer = traverse_answer version t;
+      answer = Ok (traverse_answer version t);
       machine = cond (taken_back version t) start t.machine;
       ran = t.ran;
       pairs = length t.pairs;
     }
-traverse_result (Refused why) version start t =
-    record { answer = TraverseAnswer.Refused why; machine = start; ran = 0; pairs = 0 }
+traverse_result (Err why) version start t =
+    record { answer = Err why; machine = start; ran = 0; pairs = 0 }
 
 -- the papers' number of an answer; 0 where the call was carried out
-abbrev pub traverse_number : TraverseAnswer → ℕ
-traverse_number (Marked files) = 0
-traverse_number Finished = 0
-traverse_number (Undone file) = 0
-traverse_number (Full file) = 0
-traverse_number (TraverseAnswer.Refused why) = refusal_number why
+abbrev pub traverse_number : Result TraverseEnding Refusal → ℕ
+traverse_number (Ok ending) = 0
+traverse_number (Err why) = refusal_number why
 
 -- ---- the call
 

@@ -1,13 +1,14 @@
 -- The traverse as it was before CR 11, for what CR 11 leaves alone: every store and every laid word has a pair of its own, as in document 01 and
 -- CR 1, and there is room for all. Only the theorems cite it.
-use Rattle.std.specs.Prelude.{ℕ, ◌+◌, ◌-◌, ◌^◌, cond, List, [], ◌∷◌, ◌++◌, eqb}
+use Rattle.model.specs.declared.Refusal.{Refusal}
+use Rattle.traverses.specs.declared.TraverseEnding.{TraverseEnding}
+use Rattle.std.specs.Prelude.{ℕ, ◌+◌, ◌-◌, ◌^◌, cond, List, [], ◌∷◌, ◌++◌, eqb, Result}
 use Rattle.model.specs.declared.Machine.{Machine}
 use Rattle.model.specs.Words.{word_at, store_word}
 use Rattle.model.specs.Interpreter.{goes_on, Run, begin, interpret}
 use Rattle.model.specs.Journal.{Pair, journal_pairs}
 use Rattle.interpreter.specs.Calls.{file_board}
-use Rattle.traverses.specs.declared.TraverseAnswer.{TraverseAnswer}
-use Rattle.traverses.specs.declared.TraverseAnswer.TheVariants.{Marked, Finished, Undone}
+use Rattle.traverses.specs.declared.TraverseEnding.TheVariants.{Marked, Finished, Undone}
 use Rattle.traverses.specs.Files.{Part}
 use Rattle.traverses.specs.Traverse.{entered}
 
@@ -66,7 +67,7 @@ plain_traversed bottom version (p ∷ ps) t =
     cond (eqb version 1) (plain_traversed bottom version ps u) (cond (eqb u.undone 0) (plain_traversed bottom version ps u) u)
 
 -- what it answered, and the machine and the memory that it left
-abbrev pub plain_answer : (version : ℕ) → Plain → TraverseAnswer
+abbrev pub plain_answer : (version : ℕ) → Plain → TraverseEnding
 plain_answer version t = cond (eqb version 1) (Marked t.undone) (cond (eqb t.undone 0) Finished (Undone (t.files - 1)))
 
 abbrev pub plain_kept : {A : Type 0} → (version : ℕ) → Plain → (start last : A) → A

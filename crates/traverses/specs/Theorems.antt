@@ -2,18 +2,19 @@
 -- leaves nothing but its pairs and its bit; under rule 2 an undone traverse leaves its start; when the journal is full; no address stands twice;
 -- the pairs taken back give the memory before; with room for a pair for each word and instruction everything else is as before CR 11; the bottom of
 -- memory stays, and changes nothing else (CR 6).
-use Rattle.std.specs.Prelude.{ℕ, ◌+◌, ◌*◌, ◌≤◌, ◌<◌, ◌≡◌, Bool, true, false, not, cond, ◌&&◌, List, [], ◌∷◌, ◌++◌, eqb, leb, length, get_or, take}
+use Rattle.model.specs.declared.Refusal.{Refusal}
+use Rattle.traverses.specs.declared.TraverseEnding.{TraverseEnding}
+use Rattle.interpreter.specs.declared.FileEnding.{FileEnding}
+use Rattle.std.specs.Prelude.{ℕ, ◌+◌, ◌*◌, ◌≤◌, ◌<◌, ◌≡◌, Bool, true, false, not, cond, ◌&&◌, List, [], ◌∷◌, ◌++◌, eqb, leb, length, get_or, take, Ok, Err, Result}
 use Rattle.model.specs.declared.Machine.{Machine}
 use Rattle.model.specs.Words.{bit, word_at}
 use Rattle.model.specs.Interpreter.{goes_on, address_b, next_runs, alters_memory, begin}
 use Rattle.model.specs.Journal.{has_pair, room_in, noting, Noted, fresh, run_one, run_noted, completes}
 use Rattle.model.specs.Bottom.{never_stores_below}
 use Rattle.journal.specs.Undo.{undone, restored}
-use Rattle.interpreter.specs.declared.FileAnswer.{FileAnswer}
 use Rattle.interpreter.specs.declared.FileResult.{FileResult}
 use Rattle.interpreter.specs.Calls.{file_board, file_number, FileRuns}
-use Rattle.traverses.specs.declared.TraverseAnswer.{TraverseAnswer}
-use Rattle.traverses.specs.declared.TraverseAnswer.TheVariants.{Marked, Finished, Undone, Full}
+use Rattle.traverses.specs.declared.TraverseEnding.TheVariants.{Marked, Finished, Undone, Full}
 use Rattle.traverses.specs.declared.TraverseResult.{TraverseResult}
 use Rattle.traverses.specs.Files.{Part, parts, wanted, files_in}
 use Rattle.traverses.specs.Traverse.{lay_one, part_laid, Progress, set_out, pairs_before, taken_back, file_noted, one_file}
@@ -26,11 +27,11 @@ abbrev pub lone : Machine → (count : ℕ) → List ℕ
 lone start count = 0 ∷ 0 ∷ word_at start.regs 0 ∷ count ∷ []
 
 -- what a file run answers, as a traverse answers it
-abbrev pub as_answer : (version : ℕ) → FileAnswer → TraverseAnswer
-as_answer version FileAnswer.Finished = cond (eqb version 1) (Marked 0) Finished
-as_answer version FileAnswer.Undone = cond (eqb version 1) (Marked 1) (Undone 0)
-as_answer version FileAnswer.Full = cond (eqb version 1) (Marked 1) (Full 0)
-as_answer version (FileAnswer.Refused why) = TraverseAnswer.Refused why
+abbrev pub as_answer : (version : ℕ) → Result FileEnding Refusal → Result TraverseEnding Refusal
+as_answer version (Ok FileEnding.Finished) = Ok (cond (eqb version 1) (Marked 0) Finished)
+as_answer version (Ok FileEnding.Undone) = Ok (cond (eqb version 1) (Marked 1) (Undone 0))
+as_answer version (Ok FileEnding.Full) = Ok (cond (eqb version 1) (Marked 1) (Full 0))
+as_answer version (Err why) = Err why
 
 abbrev pub as_traverse : (version : ℕ) → FileResult → TraverseResult
 as_traverse version r =
@@ -73,13 +74,13 @@ abbrev pub FullThen : Type 0
 FullThen =
     (memory : List ℕ) (bottom : ℕ) (journal : List ℕ) (start : Machine) (count : ℕ) (memory' journal' : List ℕ) (r : FileResult)
     → FileRuns memory bottom journal start count memory' journal' r
-    → r.answer ≡ FileAnswer.Full → FullThere memory bottom journal start count r.ran
+    → r.answer ≡ Ok FileEnding.Full → FullThere memory bottom journal start count r.ran
 
 abbrev pub FullFrom : Type 0
 FullFrom =
     (memory : List ℕ) (bottom : ℕ) (journal : List ℕ) (start : Machine) (count i : ℕ) → FullThere memory bottom journal start count i
     → (memory' journal' : List ℕ) (r : FileResult) → FileRuns memory bottom journal start count memory' journal' r → file_number r.answer ≡ 0
-    → (r.answer ≡ FileAnswer.Full) × (r.ran ≡ i)
+    → (r.answer ≡ Ok FileEnding.Full) × (r.ran ≡ i)
 
 -- ---- rule 1: memory, registers and flags are those of the files that finish, run alone
 
@@ -107,7 +108,7 @@ loads (p ∷ ps) = p.words ++ loads ps
 
 -- run alone they are carried out, none is undone, and the machine and the memory are those of the traverse of all files
 pub record SameAlone (whole alone : TraverseResult) (words words₂ : List ℕ) : Type 0 where
-  pub none : alone.answer ≡ Marked 0
+  pub none : alone.answer ≡ Ok (Marked 0)
   pub machine : alone.machine ≡ whole.machine
   pub memory : words₂ ≡ words
 
@@ -127,7 +128,7 @@ abbrev pub MaskTells : Type 0
 MaskTells =
     (memory : List ℕ) (bottom : ℕ) (journal load files : List ℕ) (start : Machine) (memory' journal' : List ℕ) (r : TraverseResult)
     → Traverses memory bottom journal load files start 1 memory' journal' r
-    → (mask : ℕ) → r.answer ≡ Marked mask
+    → (mask : ℕ) → r.answer ≡ Ok (Marked mask)
     → (i : ℕ) → bit mask i ≡ not (get_or (outcomes bottom 1 (room_in journal) (parts (files_in files) load) (set_out start memory journal)) i true)
 
 -- ---- rule 2: "undone" and "journal full" leave memory, registers and flags of the start, and name the first file that does not finish
@@ -143,15 +144,15 @@ abbrev pub UndoneKeepsStart : Type 0
 UndoneKeepsStart =
     (memory : List ℕ) (bottom : ℕ) (journal load files : List ℕ) (start : Machine) (version : ℕ) (memory' journal' : List ℕ) (r : TraverseResult)
     → Traverses memory bottom journal load files start version memory' journal' r
-    → (full : Bool) (file : ℕ) → r.answer ≡ stopped_by full file → TakenBack bottom version journal load files start memory memory' file r
+    → (full : Bool) (file : ℕ) → r.answer ≡ Ok (stopped_by full file) → TakenBack bottom version journal load files start memory memory' file r
 
 -- ---- where no file is undone under either rule, the rules agree: memory, machine and count
 
 abbrev pub RulesAgree : Type 0
 RulesAgree =
     (memory : List ℕ) (bottom : ℕ) (journal load files : List ℕ) (start : Machine)
-    → (memory' journal' : List ℕ) (r : TraverseResult) → Traverses memory bottom journal load files start 1 memory' journal' r → r.answer ≡ Marked 0
-    → (memory'' journal'' : List ℕ) (r₂ : TraverseResult) → Traverses memory bottom journal load files start 2 memory'' journal'' r₂ → r₂.answer ≡ Finished
+    → (memory' journal' : List ℕ) (r : TraverseResult) → Traverses memory bottom journal load files start 1 memory' journal' r → r.answer ≡ Ok (Marked 0)
+    → (memory'' journal'' : List ℕ) (r₂ : TraverseResult) → Traverses memory bottom journal load files start 2 memory'' journal'' r₂ → r₂.answer ≡ Ok Finished
     → (memory' ≡ memory'') × (r.machine ≡ r₂.machine) × (r.ran ≡ r₂.ran)
 
 -- ---- the pairs
@@ -192,7 +193,7 @@ LastRestores =
 -- ---- with room for a pair for each word and instruction: answer, memory, registers, flags and counts of the journal before
 
 pub record AsPlain (version : ℕ) (start : Machine) (memory memory' : List ℕ) (r : TraverseResult) (t : Plain) : Type 0 where
-  pub answer : r.answer ≡ plain_answer version t
+  pub answer : r.answer ≡ Ok (plain_answer version t)
   pub machine : r.machine ≡ plain_kept version t start t.machine
   pub words : memory' ≡ plain_kept version t memory t.memory
   pub ran : r.ran ≡ t.ran

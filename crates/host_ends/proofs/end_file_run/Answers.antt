@@ -4,8 +4,8 @@ use Rattle.host_calls.specs.Codes.{file_code}
 use Rattle.host_ends.proofs.Ends.{ends-refused, not-finished, file-stopped, file-finished}
 use Rattle.host_ends.proofs.end_file_run.Goals as goal
 
-pub returns-in-Refused : goal.returns-in-Refused
-returns-in-Refused c = ends-refused _ _ _ _ _ _ _ _ not-finished c.in-Refused.why (ap file_code c.in-Refused.is) _ c.refusal_number.ensures
+pub returns-in-Err : goal.returns-in-Err
+returns-in-Err c = ends-refused _ _ _ _ _ _ _ _ not-finished c.in-Err.why (ap file_code c.in-Err.is) _ c.refusal_number.ensures
 
 pub returns-in-Undone : goal.returns-in-Undone
 returns-in-Undone c = file-stopped _ _ _ _ _ refl refl c.in-Undone.is (search rules)

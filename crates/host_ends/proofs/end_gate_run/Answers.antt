@@ -3,8 +3,8 @@ use Rattle.gate_machine.specs.Calls.{gate_number}
 use Rattle.host_ends.proofs.Ends.{turned_down, ends-refused, gate-done}
 use Rattle.host_ends.proofs.end_gate_run.Goals as goal
 
-pub returns-in-Refused : goal.returns-in-Refused
-returns-in-Refused c = ends-refused _ _ _ _ _ _ _ _ turned_down c.in-Refused.why (ap gate_number c.in-Refused.is) _ c.refusal_number.ensures
+pub returns-in-Err : goal.returns-in-Err
+returns-in-Err c = ends-refused _ _ _ _ _ _ _ _ turned_down c.in-Err.why (ap gate_number c.in-Err.is) _ c.refusal_number.ensures
 
 pub returns-in-Ran : goal.returns-in-Ran
 returns-in-Ran c = gate-done _ _ _ _ _ c.in-Ran.is c.put_state.ensures c.put_one.ensures

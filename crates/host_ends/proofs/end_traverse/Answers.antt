@@ -3,8 +3,8 @@ use Rattle.host_calls.specs.Codes.{traverse_code}
 use Rattle.host_ends.proofs.Ends.{ends-refused, not-finished, traverse_stopped, traverse_done}
 use Rattle.host_ends.proofs.end_traverse.Goals as goal
 
-pub returns-in-Refused : goal.returns-in-Refused
-returns-in-Refused c = ends-refused _ _ _ _ _ _ _ _ not-finished c.in-Refused.why (ap traverse_code c.in-Refused.is) _ c.refusal_number.ensures
+pub returns-in-Err : goal.returns-in-Err
+returns-in-Err c = ends-refused _ _ _ _ _ _ _ _ not-finished c.in-Err.why (ap traverse_code c.in-Err.is) _ c.refusal_number.ensures
 
 pub returns-in-Undone : goal.returns-in-Undone
 returns-in-Undone c = traverse_stopped _ _ _ _ _ _ refl refl refl c.in-Undone.is c.put_three.ensures

@@ -1,8 +1,8 @@
 use Rattle.host_ends.proofs.Ends.{write_refused, write_done}
 use Rattle.host_ends.proofs.end_write.Goals as goal
 
-pub returns-in-Refused : goal.returns-in-Refused
-returns-in-Refused c = write_refused _ _ _ c.in-Refused.is _ c.refusal_number.ensures
+pub returns-in-Err : goal.returns-in-Err
+returns-in-Err c = write_refused _ _ _ c.in-Err.is _ c.refusal_number.ensures
 
 pub returns-in-Written : goal.returns-in-Written
 returns-in-Written c = write_done _ _ _ c.in-Written.is _ c.put_one.ensures

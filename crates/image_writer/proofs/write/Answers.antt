@@ -5,7 +5,7 @@ use mathlib.Core.Path.{◌≡◌, sym, ◌∙◌}
 use native.Mathlib.Omega.{arith}
 use lib.ListN.{length}
 use borrow.Author.Rules.{rules}
-use Rattle.model.proofs.Verdicts.{memory-bounds}
+use Rattle.model.proofs.Verdicts.{leaves, memory-bounds}
 use Rattle.image.specs.Format.{span_of, image_of}
 use Rattle.image.proofs.Inverse.{size}
 use Rattle.image.proofs.Loaded.{version-small}
@@ -17,18 +17,18 @@ image_length : (version : ℕ) (machine : Machine) (memory : List ℕ) → lengt
 image_length version machine memory eight = omega (arith, size version machine memory eight)
 
 pub image_size-size-requires : goal.image_size-size-requires
-image_size-size-requires c = (memory-bounds c.args.memory.now (sym c.memory_fits.ensures ∙ c.in-Accepted.is)).1
+image_size-size-requires c = (memory-bounds c.args.memory.now (sym c.memory_fits.ensures ∙ c.in_ok-memory_fits.was)).1
 
 pub returns-then-out-size : goal.returns-then-out-size
 returns-then-out-size c =
     let a = c.args in
-    write_no_room a.memory.now a.machine a.version a.out.now (sym c.in-Accepted.is ∙ c.memory_fits.ensures)
+    write_no_room a.memory.now a.machine a.version a.out.now (sym c.in_ok-memory_fits.was ∙ c.memory_fits.ensures)
     (omega (arith, c.if-out-size.true, c.image_size-size.ensures, image_length c.args.version c.args.machine c.args.memory.now (search rules)))
 
 pub returns-then-not-is_version : goal.returns-then-not-is_version
 returns-then-not-is_version c =
     let a = c.args in
-    write_no_version a.memory.now a.machine a.version a.out.now (sym c.in-Accepted.is ∙ c.memory_fits.ensures)
+    write_no_version a.memory.now a.machine a.version a.out.now (sym c.in_ok-memory_fits.was ∙ c.memory_fits.ensures)
     (omega (arith, c.if-out-size.false, c.image_size-size.ensures, image_length c.args.version c.args.machine c.args.memory.now (search rules))) (sym c.is_version.ensures ∙ c.if-not-is_version.true)
 
 pub overflow_cast-version : goal.overflow_cast-version
@@ -36,18 +36,19 @@ overflow_cast-version c = omega (arith, version-small c.args.version (sym c.is_v
 
 pub put_image-requires : goal.put_image-requires
 put_image-requires c =
-    let fits = sym c.memory_fits.ensures ∙ c.in-Accepted.is in
+    let fits = sym c.memory_fits.ensures ∙ c.in_ok-memory_fits.was in
     ((memory-bounds c.args.memory.now fits).1, omega (arith, c.image_size-size.ensures, c.if-out-size.false))
 
-pub returns-in-Refused : goal.returns-in-Refused
-returns-in-Refused c =
+pub returns-in_err-memory_fits : goal.returns-in_err-memory_fits
+returns-in_err-memory_fits c =
     let a = c.args in
-    write_refused a.memory.now a.machine a.version a.out.now (sym c.in-Refused.is ∙ c.memory_fits.ensures)
+    rw (leaves _ c.from_residual.ensures.1)
+    (write_refused a.memory.now a.machine a.version a.out.now (sym c.in_err-memory_fits.was ∙ c.memory_fits.ensures))
 
-pub returns-else-not-is_version : goal.returns-else-not-is_version
-returns-else-not-is_version c =
+pub returns : goal.returns
+returns c =
     let a = c.args in
     let n = c.image_size-size.ensures in
-    write_carried a.memory.now a.machine a.version a.out.now (sym c.in-Accepted.is ∙ c.memory_fits.ensures) _ _
+    write_carried a.memory.now a.machine a.version a.out.now (sym c.in_ok-memory_fits.was ∙ c.memory_fits.ensures) _ _
     (omega (arith, c.if-out-size.false, n, image_length c.args.version c.args.machine c.args.memory.now (search rules)))
     (sym c.is_version.ensures ∙ c.if-not-is_version.false) c.put_image.ensures (n ∙ sym (image_length c.args.version c.args.machine c.args.memory.now (search rules)))

@@ -21,9 +21,9 @@ put_run-requires c =
     let read = c.read-result in
     words-fit read.ensures c.in-Loaded.is read.auto.memory
 
-pub returns-in-Refused : goal.returns-in-Refused
-returns-in-Refused c =
-    report_refused c.read-result.ensures c.in-Refused.is c.if-out-lt-LONGEST_TEXT.false
+pub returns-in-Err : goal.returns-in-Err
+returns-in-Err c =
+    report_refused c.read-result.ensures c.in-Err.is c.if-out-lt-LONGEST_TEXT.false
     c.put_refused.ensures
 
 pub returns-in-Loaded : goal.returns-in-Loaded

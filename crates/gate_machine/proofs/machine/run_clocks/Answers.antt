@@ -1,9 +1,9 @@
+use Rattle.std.specs.Prelude.{Ok}
 use Prim.Native.Nat.{◌+◌, ◌-◌, ◌^◌, ◌<◌}
 use mathlib.Core.Path.{◌≡◌, refl, ◌∙◌}
 use mathlib.Core.List.{[]}
 use native.Mathlib.Omega.{arith}
 use Rattle.arithmetic.proofs.Bits.{bit_le}
-use Rattle.model.specs.declared.Verdict.TheVariants.{Accepted}
 use Rattle.model.specs.Board.{board_with}
 use Rattle.model.specs.GateMachine.{gate_run}
 use Rattle.model.specs.Refusals.{gate_verdict}
@@ -19,25 +19,25 @@ loop-i-init c = (omega arith, refl, refl)
 
 pub overflow_cast-step : goal.overflow_cast-step
 overflow_cast-step c =
-    let accepted-at : gate_verdict c.args.memory.now (board_with c.args.bottom c.args.waits.now) [] (state_of c.args.regs.now c.each_latch-s.result) ≡ Accepted = rw c.each_latch-s.ensures c.requires in
+    let accepted-at : gate_verdict c.args.memory.now (board_with c.args.bottom c.args.waits.now) [] (state_of c.args.regs.now c.each_latch-s.result) ≡ Ok tt = rw c.each_latch-s.ensures c.requires in
     let row_at : c.loop-i.s.row < 13 = row-there _ _ [] _ accepted-at _ c.loop-i.invariant.2 in
     omega (arith, row_at)
 
 pub offset_bounds-table-s : goal.offset_bounds-table-s
 offset_bounds-table-s c =
-    let accepted-at : gate_verdict c.args.memory.now (board_with c.args.bottom c.args.waits.now) [] (state_of c.args.regs.now c.each_latch-s.result) ≡ Accepted = rw c.each_latch-s.ensures c.requires in
+    let accepted-at : gate_verdict c.args.memory.now (board_with c.args.bottom c.args.waits.now) [] (state_of c.args.regs.now c.each_latch-s.result) ≡ Ok tt = rw c.each_latch-s.ensures c.requires in
     let row_at : c.loop-i.s.row < 13 = row-there _ _ [] _ accepted-at _ c.loop-i.invariant.2 in
     omega (arith, row_at)
 
 pub bounds-table-s : goal.bounds-table-s
 bounds-table-s c =
-    let accepted-at : gate_verdict c.args.memory.now (board_with c.args.bottom c.args.waits.now) [] (state_of c.args.regs.now c.each_latch-s.result) ≡ Accepted = rw c.each_latch-s.ensures c.requires in
+    let accepted-at : gate_verdict c.args.memory.now (board_with c.args.bottom c.args.waits.now) [] (state_of c.args.regs.now c.each_latch-s.result) ≡ Ok tt = rw c.each_latch-s.ensures c.requires in
     let row_at : c.loop-i.s.row < 13 = row-there _ _ [] _ accepted-at _ c.loop-i.invariant.2 in
     omega (arith, row_at)
 
 pub tick-t-requires : goal.tick-t-requires
 tick-t-requires c =
-    let accepted-at : gate_verdict c.args.memory.now (board_with c.args.bottom c.args.waits.now) [] (state_of c.args.regs.now c.each_latch-s.result) ≡ Accepted = rw c.each_latch-s.ensures c.requires in
+    let accepted-at : gate_verdict c.args.memory.now (board_with c.args.bottom c.args.waits.now) [] (state_of c.args.regs.now c.each_latch-s.result) ≡ Ok tt = rw c.each_latch-s.ensures c.requires in
     let row_at : c.loop-i.s.row < 13 = row-there _ _ [] _ accepted-at _ c.loop-i.invariant.2 in
     (step-there c.steps-table.ensures refl row_at _, short _ _ [] _ accepted-at)
 
