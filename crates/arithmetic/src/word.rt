@@ -40,8 +40,7 @@ fn plain(x: u32) -> Computed
 fn sum(x: u32, y: u32, c: bool) -> Computed
     ensures { completed result ≡ sum_of 31 x y c }
 {
-    let low = std::num::wrapping_add_u32(x, y);
-    let r = std::num::wrapping_add_u32(low, c as u32);
+    let r = x.wrapping_add(y).wrapping_add(c as u32);
     Computed {
         result: r,
         carry: (r < x) | (c & (r == x)),
@@ -53,8 +52,7 @@ fn sum(x: u32, y: u32, c: bool) -> Computed
 fn difference(x: u32, y: u32, c: bool) -> Computed
     ensures { completed result ≡ difference_of 31 x y c }
 {
-    let low = std::num::wrapping_sub_u32(x, y);
-    let r = std::num::wrapping_sub_u32(low, c as u32);
+    let r = x.wrapping_sub(y).wrapping_sub(c as u32);
     Computed {
         result: r,
         carry: (x < y) | (c & (x == y)),
@@ -66,10 +64,8 @@ fn difference(x: u32, y: u32, c: bool) -> Computed
 fn halved(top: bool, a: u32) -> Computed
     ensures { completed result ≡ halved_of 31 top a }
 {
-    let low = a / 2;
-    let result = low + TOP * (top as u32);
     Computed {
-        result,
+        result: a / 2 + TOP * (top as u32),
         carry: a % 2 == 1,
         overflow: false,
     }
@@ -79,8 +75,7 @@ fn halved(top: bool, a: u32) -> Computed
 fn by_operation(operation: u8, a: u32, b: u32, carry: bool) -> Computed
     ensures { completed result ≡ alu_of operation a b carry }
 {
-    let op = operation % 16;
-    match op {
+    match operation % 16 {
         1 => sum(a, 0, true),
         2 => sum(b, a, carry),
         3 => sum(b, a, false),

@@ -1,6 +1,6 @@
 // What an instruction word says of computing: the operation, whether the result is stored, the permitted flags. The interpreter carries
 // the flags packed and the gate machine apart. Leaves that both engines use.
-#![tactic(auto)]
+#![tactic(auto, unfolding(model::specs::Words::field, model::specs::Words::bit, model::specs::Alu::is_move, model::specs::Alu::operation))]
 
 mod storing;
 

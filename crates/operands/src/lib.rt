@@ -1,6 +1,6 @@
 // Whether a word is an instruction, an instruction's operands, words of memory and a program's store to them: leaves that both engines
 // use.
-#![tactic(auto)]
+#![tactic(auto, unfolding(model::specs::Words::field, model::specs::Words::bit, model::specs::Words::is_instruction, model::specs::Operands::operand_a, model::specs::Operands::operand_b))]
 
 mod instruction;
 mod memory;

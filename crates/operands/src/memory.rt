@@ -1,5 +1,5 @@
 // Words of a borrowed memory, at any address.
-ghost use Rattle.std.specs.Prelude.{◌≡◌, ◌-◌};
+ghost use Rattle.std.specs.Prelude.{◌≡◌};
 ghost use Rattle.model.specs.Words.{word_at, store_word};
 ghost use Rattle.operands.specs.Stores.{StoresAbove};
 
@@ -7,23 +7,16 @@ ghost use Rattle.operands.specs.Stores.{StoresAbove};
 pub fn load(memory: &[u32], i: usize) -> u32
     ensures { result ≡ word_at memory.now i }
 {
-    if i < memory.len() { memory[i] } else { 0 }
+    memory.get(i).copied().unwrap_or(0)
 }
 
-// The word at an address is replaced, where there is one.
+// The word at an address is replaced, where there is one. (Not by `get_mut`: of the slice that it lends from, a proof knows the length alone.)
 pub fn store(memory: &mut [u32], i: usize, x: u32)
     ensures { memory.new ≡ store_word memory.old i x }
 {
     if i < memory.len() {
         memory[i] = x;
     }
-}
-
-// How many words a memory of so many has from its bottom on.
-fn words_above(bottom: usize, words: usize) -> usize
-    ensures { result ≡ words - bottom }
-{
-    if bottom <= words { words - bottom } else { 0 }
 }
 
 // A program's store: below the bottom of memory it alters nothing. Whether it put the word. One comparison tells that the address is neither
@@ -33,7 +26,7 @@ pub fn store_above(memory: &mut [u32], bottom: u32, address: u32, word: u32) -> 
 {
     let i = address as usize;
     let base = bottom as usize;
-    if std::num::wrapping_sub_usize(i, base) < words_above(base, memory.len()) {
+    if i.wrapping_sub(base) < memory.len().saturating_sub(base) {
         memory[i] = word;
         return true;
     }

@@ -1,6 +1,7 @@
 // The four flags as the bits of one number, in the order in which an instruction word permits them. One number is quicker to carry through
-// a run than four truths. Bit 0 is divided by 1, so that it is read as the others are.
-ghost use Rattle.std.specs.Prelude.{◌≡◌};
+// a run than four truths.
+ghost use Rattle.std.specs.Prelude.{◌≡◌, ◌<◌};
+ghost use Rattle.model.specs.Words.{bit};
 ghost use Rattle.model.specs.Packed.{packed_of, flags_of};
 
 use model::Flags;
@@ -14,28 +15,35 @@ pub fn packed(flags: Flags) -> u32
         + (flags.zero as u32)
 }
 
+fn bit(flags: u32, place: u32) -> bool
+    requires { place < 32 }
+    ensures { result ≡ bit flags place }
+{
+    (flags >> place) % 2 == 1
+}
+
 pub fn carry(flags: u32) -> bool
     ensures { result ≡ (flags_of flags).carry }
 {
-    flags / 8 % 2 == 1
+    bit(flags, 3)
 }
 
 pub fn overflow(flags: u32) -> bool
     ensures { result ≡ (flags_of flags).overflow }
 {
-    flags / 4 % 2 == 1
+    bit(flags, 2)
 }
 
 pub fn negative(flags: u32) -> bool
     ensures { result ≡ (flags_of flags).negative }
 {
-    flags / 2 % 2 == 1
+    bit(flags, 1)
 }
 
 pub fn zero(flags: u32) -> bool
     ensures { result ≡ (flags_of flags).zero }
 {
-    flags / 1 % 2 == 1
+    bit(flags, 0)
 }
 
 pub fn unpacked(flags: u32) -> Flags

@@ -1,5 +1,5 @@
 // The wait list, which begins again at its end (document 02, CR 3): the one place of the code that says where.
-#![tactic(auto)]
+#![tactic(auto, unfolding(model::specs::Waits::wait_at, model::specs::Waits::next_position, model::specs::Waits::position_fits))]
 
 ghost use Rattle.std.specs.Prelude.{◌≡◌};
 ghost use Rattle.model.specs.Waits.{wait_at, next_position, position_fits};
@@ -8,17 +8,14 @@ ghost use Rattle.model.specs.Waits.{wait_at, next_position, position_fits};
 pub fn wait_at(waits: &[u16], position: usize) -> u16
     ensures { result ≡ wait_at waits.now position }
 {
-    if waits.len() <= position {
-        return 0;
-    }
-    waits[position]
+    waits.get(position).copied().unwrap_or(0)
 }
 
 // After the last entry the first. Of the highest position the sum goes round to 0, which is right there too.
 pub fn next_position(waits: &[u16], position: usize) -> usize
     ensures { result ≡ next_position waits.now position }
 {
-    let next = std::num::wrapping_add_usize(position, 1);
+    let next = position.wrapping_add(1);
     if next < waits.len() { next } else { 0 }
 }
 
