@@ -6,7 +6,7 @@ ghost use Rattle.image.specs.Reading.{header_verdict, field_verdict};
 ghost use Rattle.image_reader.specs.Passes.{image_version, image_count, head_verdict, tail_verdict, image_verdict};
 
 use super::bytes::{byte_at, pair_at};
-use image::{is_version, words_in_field};
+use image::{WORDS_PER_FIELD, is_version, words_in_field};
 use model::{Refusal, Verdict};
 use refusals::{MOST_WORDS, demand, then};
 
@@ -94,16 +94,11 @@ fn tail_verdict(bytes: &[u8], words: usize) -> Verdict
     ensures { result ≡ tail_verdict words 53 bytes.now }
 {
     let mut at = 53;
-    let mut left = words;
-    while 0 < left {
-        let count = words_in_field(left);
-        let verdict = header_verdict(bytes, at, 5, (4 * count) as u32);
-        match verdict {
+    for field in 0..words.div_ceil(WORDS_PER_FIELD) {
+        let count = words_in_field(words - WORDS_PER_FIELD * field);
+        match header_verdict(bytes, at, 5, (4 * count) as u32) {
             Verdict::Refused(why) => return Verdict::Refused(why),
-            Verdict::Accepted => {
-                at = at + 3 + 4 * count;
-                left = left - count;
-            }
+            Verdict::Accepted => at = at + 3 + 4 * count,
         }
     }
     let end = header_verdict(bytes, at, 255, 0);
