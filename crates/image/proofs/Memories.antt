@@ -33,13 +33,6 @@ pub span_step : (at words count : ℕ) → 0 < words → count ≡ min words_per
 unfolding fields_for
 span_step at words count h e = omega arith
 
--- the same in a turn of a loop over the fields, of which so many words are done
-pub span_turn : (at words from count : ℕ) → from < words → count ≡ min words_per_field (words - from)
-    → at + 3 + 4 * count + span_of (words - (from + count)) ≡ at + span_of (words - from)
-span_turn at words from count h e =
-    let q : words - (from + count) ≡ words - from - count = omega arith in
-    ap (λ (n : ℕ). at + 3 + 4 * count + span_of n) q ∙ sym (span_step at (words - from) count (omega arith) e)
-
 pub length-memory : (n : ℕ) (memory : List ℕ) → length memory ≤ words_per_field * n → length (memory_fields n memory) ≡ 4 * length memory + 3 * n
 unfolding memory_fields
 length-memory zero memory h = omega arith

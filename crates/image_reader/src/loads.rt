@@ -44,7 +44,8 @@ pub fn load_memory(bytes: &[u8], memory: &mut [u32], words: usize)
     ensures { memory.new ≡ sets memory.old 0 (image_memory (fields_for words) words (drop 53 bytes.now)) }
 {
     let mut at = 53;
-    for from in (0..words).step_by(WORDS_PER_FIELD) {
+    for field in 0..words.div_ceil(WORDS_PER_FIELD) {
+        let from = WORDS_PER_FIELD * field;
         let count = words_in_field(words - from);
         let value = at + 3;
         get_words(&bytes[value..], &mut memory[from..from + count]);

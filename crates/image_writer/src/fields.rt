@@ -14,7 +14,7 @@ pub fn image_size(words: usize) -> usize
     requires { words ≤ most_words }
     ensures { result ≡ 56 + span_of words }
 {
-    56 + 4 * words + 3 * ((words + (WORDS_PER_FIELD - 1)) / WORDS_PER_FIELD)
+    56 + 4 * words + 3 * words.div_ceil(WORDS_PER_FIELD)
 }
 
 fn put_registers(out: &mut [u8], at: usize, regs: &[u32; 8])
