@@ -31,6 +31,7 @@ pub fn get_words(bytes: &[u8], out: &mut [u32])
     requires { 4 * length out.old ≤ length bytes.now }
     ensures { out.new ≡ words_in (length out.old) bytes.now }
 {
+    // By index, since a proof learns nothing of what is stored through `iter_mut().enumerate()`.
     for i in 0..out.len() {
         out[i] = word_in(bytes, 4 * i);
     }

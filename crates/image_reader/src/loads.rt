@@ -43,6 +43,7 @@ pub fn load_memory(bytes: &[u8], memory: &mut [u32], words: usize)
     requires { (53 + span_of words ≤ length bytes.now) × (words ≤ length memory.old) }
     ensures { memory.new ≡ sets memory.old 0 (image_memory (fields_for words) words (drop 53 bytes.now)) }
 {
+    // By number, since a proof learns nothing of what is stored through `chunks_mut`.
     let mut at = 53;
     for field in 0..words.div_ceil(WORDS_PER_FIELD) {
         let from = WORDS_PER_FIELD * field;
