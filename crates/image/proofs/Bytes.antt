@@ -66,12 +66,11 @@ length-word-bytes (w ∷ words) =
     ∙ omega arith
 
 -- the next of some words
-pub next_word : (words : List ℕ) (from from' n n' : ℕ) → from < length words → from' ≡ from + 1 → n ≡ n' + 1
-    → word_bytes (take n (drop from words)) ≡ bytes_of 4 (get_or words from 0) ++ word_bytes (take n' (drop from' words))
+pub next_word : (words : List ℕ) (i : ℕ) → i < length words → word_bytes (drop i words) ≡ bytes_of 4 (get_or words i 0) ++ word_bytes (drop (i + 1) words)
 unfolding word_bytes
-next_word words from from' n n' h p q =
-    ap₂ (λ (k : ℕ) (l : List ℕ). word_bytes (take k l)) (q ∙ add-one n') (drop-cons words from 0 h)
-    ∙ ap (λ (k : ℕ). bytes_of 4 (get_or words from 0) ++ word_bytes (take n' (drop k words))) (sym (add-one from) ∙ sym p)
+next_word words i h =
+    ap word_bytes (drop-cons words i 0 h)
+    ∙ ap (λ (k : ℕ). bytes_of 4 (get_or words i 0) ++ word_bytes (drop k words)) (sym (add-one i))
 
 pub length-words : (n : ℕ) (bytes : List ℕ) → length (words_in n bytes) ≡ n
 unfolding words_in

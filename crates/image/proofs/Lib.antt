@@ -1,5 +1,6 @@
 mod Bench
 pub mod Bytes
+pub mod Parts
 pub mod Places
 pub mod Outcomes
 pub mod Headers

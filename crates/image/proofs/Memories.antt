@@ -6,7 +6,7 @@ use mathlib.Core.List.{List, [], ◌++◌, append_assoc, append-nil}
 use native.Mathlib.Decide.{dec_le}
 use native.Mathlib.Omega.{arith}
 use lib.ListN.{length, take, drop, length-append, length-take, length-drop, take-append-drop, drop_of_length-le}
-use lib.Seq.{take_at, drop_at, take_all, length-take-le, drop-drop}
+use lib.Seq.{take_at, drop_at, take_all}
 use Rattle.model.specs.declared.Machine.{Machine}
 use Rattle.image.specs.Bytes.{word_bytes, words_in, Below}
 use Rattle.image.specs.Format.{words_field, words_per_field, field_bytes, fields_for, span_of, memory_fields}
@@ -33,13 +33,6 @@ pub span_step : (at words count : ℕ) → 0 < words → count ≡ min words_per
 unfolding fields_for
 span_step at words count h e = omega arith
 
--- the same in a turn of a loop over the fields, of which so many words are done
-pub span_turn : (at words from count : ℕ) → from < words → count ≡ min words_per_field (words - from)
-    → at + 3 + 4 * count + span_of (words - (from + count)) ≡ at + span_of (words - from)
-span_turn at words from count h e =
-    let q : words - (from + count) ≡ words - from - count = omega arith in
-    ap (λ (n : ℕ). at + 3 + 4 * count + span_of n) q ∙ sym (span_step at (words - from) count (omega arith) e)
-
 pub length-memory : (n : ℕ) (memory : List ℕ) → length memory ≤ words_per_field * n → length (memory_fields n memory) ≡ 4 * length memory + 3 * n
 unfolding memory_fields
 length-memory zero memory h = omega arith
@@ -57,31 +50,21 @@ least n k l e = go (dec_le n (length l))
     go (yes h) = let q : n ≡ k = omega arith in (ap (λ (x : ℕ). take x l) q, ap (λ (x : ℕ). drop x l) q)
     go (no h) = (take_all n l (omega arith) ∙ sym (take_all k l (omega arith)), drop_of_length-le l {i = n} (omega arith) ∙ sym (drop_of_length-le l {i = k} (omega arith)))
 
--- the next field of words
-pub next_field : (memory : List ℕ) (from count : ℕ) → from < length memory → count ≡ min words_per_field (length memory - from)
-    → memory_fields (fields_for (length memory - from)) (drop from memory)
-    ≡ field_bytes (words_field count) (word_bytes (take count (drop from memory))) ++ memory_fields (fields_for (length memory - (from + count))) (drop (from + count) memory)
+-- the next field of words, which takes as many as it can
+pub next_field : (words first rest : List ℕ) → words ≡ first ++ rest → length first ≡ min words_per_field (length words) → 0 < length words
+    → memory_fields (fields_for (length words)) words ≡ field_bytes (words_field (length first)) (word_bytes first) ++ memory_fields (fields_for (length rest)) rest
 unfolding memory_fields field_bytes
-next_field memory from count h e =
-    let n : ℕ = length memory - from in
-    let n' : ℕ = length memory - (from + count) in
-    let q : n - count ≡ n' = omega arith in
-    let one_less : fields_for n ≡ suc (fields_for n') = one-field-less n count (omega arith) e ∙ ap (λ (x : ℕ). suc (fields_for x)) q in
-    let k : count ≡ min words_per_field (length (drop from memory)) = e ∙ ap (min words_per_field) (sym (length-drop from memory)) in
-    let parts = least words_per_field count (drop from memory) k in
-    ap (λ (x : ℕ). memory_fields x (drop from memory)) one_less
-    ∙ ap₂ (λ (x y : List ℕ). field_bytes (words_field count) (word_bytes x) ++ memory_fields (fields_for n') y) parts.0 (parts.1 ∙ drop-drop count from memory)
+next_field words first rest parts e h =
+    let left : length words - length first ≡ length rest = omega (arith, length-append first rest, ap length parts) in
+    let one_less : fields_for (length words) ≡ suc (fields_for (length rest)) = one-field-less (length words) (length first) h e ∙ ap (λ (x : ℕ). suc (fields_for x)) left in
+    let cut = least words_per_field (length first) words e in
+    ap (λ (x : ℕ). memory_fields x words) one_less
+    ∙ ap₂ (λ (x y : List ℕ). field_bytes (words_field (length x)) (word_bytes x) ++ memory_fields (fields_for (length rest)) y)
+    (cut.0 ∙ ap (take (length first)) parts ∙ take_at first rest (length first) refl) (cut.1 ∙ ap (drop (length first)) parts ∙ drop_at first rest (length first) refl)
 
--- as many words as are asked for, where they are there
-pub length_part : (memory : List ℕ) (from count : ℕ) → from + count ≤ length memory → length (take count (drop from memory)) ≡ count
-length_part memory from count h = length-take-le count (drop from memory) (omega (arith, length-drop from memory))
-
-pub length-word-field : (memory : List ℕ) (from count : ℕ) → from + count ≤ length memory
-    → length (field_bytes (words_field count) (word_bytes (take count (drop from memory)))) ≡ 3 + 4 * count
-length-word-field memory from count h =
-    let words : List ℕ = take count (drop from memory) in
-    let l : length words ≡ count = length_part memory from count h in
-    omega (arith, length-field (words_field count) (word_bytes words), length-word-bytes words)
+-- how many bytes it has
+pub length-word-field : (words : List ℕ) → length (field_bytes (words_field (length words)) (word_bytes words)) ≡ 3 + 4 * length words
+length-word-field words = omega (arith, length-field (words_field (length words)) (word_bytes words), length-word-bytes words)
 
 -- the words of a first field, and what is left
 module _ (words : ℕ) (memory : List ℕ) (l : length memory ≡ words) where

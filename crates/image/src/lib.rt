@@ -33,9 +33,5 @@ pub fn is_version(version: u32) -> bool
 pub fn words_in_field(left: usize) -> usize
     ensures { result ≡ min words_per_field left }
 {
-    if WORDS_PER_FIELD < left {
-        WORDS_PER_FIELD
-    } else {
-        left
-    }
+    left.min(WORDS_PER_FIELD)
 }

@@ -6,7 +6,7 @@ ghost use Rattle.image.specs.Reading.{header_verdict, field_verdict};
 ghost use Rattle.image_reader.specs.Passes.{image_version, image_count, head_verdict, tail_verdict, image_verdict};
 
 use super::bytes::{byte_at, pair_at};
-use image::{is_version, words_in_field};
+use image::{WORDS_PER_FIELD, is_version, words_in_field};
 use model::Refusal;
 use refusals::{MOST_WORDS, demand};
 
@@ -88,12 +88,10 @@ fn tail_verdict(bytes: &[u8], words: usize) -> Result<(), Refusal>
     ensures { result ≡ tail_verdict words 53 bytes.now }
 {
     let mut at = 53;
-    let mut left = words;
-    while 0 < left {
-        let count = words_in_field(left);
+    for field in 0..words.div_ceil(WORDS_PER_FIELD) {
+        let count = words_in_field(words - WORDS_PER_FIELD * field);
         header_verdict(bytes, at, 5, (4 * count) as u32)?;
         at = at + 3 + 4 * count;
-        left = left - count;
     }
     header_verdict(bytes, at, 255, 0)?;
     demand(bytes.len() <= at + 3, Refusal::TrailingBytes)

@@ -1,10 +1,10 @@
 -- Fields stored one after the other.
-use Prim.Native.Nat.{ℕ, ◌+◌, ◌*◌}
-use mathlib.Core.Path.{◌≡◌, refl, sym, ap, ◌∙◌}
+use Prim.Native.Nat.{ℕ, ◌+◌}
+use mathlib.Core.Path.{◌≡◌, refl, ap, ◌∙◌}
 use mathlib.Core.List.{List, [], ◌∷◌, ◌++◌}
 use native.Mathlib.Omega.{arith}
-use lib.ListN.{length, take}
-use lib.Seq.{sets, take_all}
+use lib.ListN.{length}
+use lib.Seq.{sets}
 use Rattle.model.specs.declared.Machine.{Machine}
 use Rattle.model.specs.Packed.{flag_numbers}
 use Rattle.model.proofs.Stores.{store_step}
@@ -22,13 +22,6 @@ field_put f out out' out'' at n value p q e =
     q
     ∙ store_step out out' at (at + 3) (f.tag ∷ bytes_of 2 n) value _ p refl refl
     ∙ ap (λ (k : ℕ). sets out at (f.tag ∷ (bytes_of 2 k ++ value))) e
-
--- a header and then all of eight words are the registers' field
-pub registers-put : (out out' out'' : List ℕ) (at : ℕ) (regs : List ℕ) → length regs ≡ 8 → out' ≡ sets out at (registers_field.tag ∷ bytes_of 2 32)
-    → out'' ≡ sets out' (at + 3) (word_bytes (take 8 regs)) → out'' ≡ sets out at (field_bytes registers_field (word_bytes regs))
-registers-put out out' out'' at regs l p q =
-    field_put registers_field out out' out'' at 32 (word_bytes regs) p (q ∙ ap (λ (w : List ℕ). sets out' (at + 3) (word_bytes w)) (take_all 8 regs (omega arith)))
-    (ap (λ (n : ℕ). 4 * n) (sym l) ∙ sym (length-word-bytes regs))
 
 version-field : (version : ℕ) → ◌≡◌ {A = List ℕ} (1 ∷ 1 ∷ 0 ∷ version ∷ []) (field_bytes version_field (version ∷ []))
 unfolding field_bytes bytes_of

@@ -1,19 +1,10 @@
-use native.Mathlib.Numerals.{add-one, add-two, add-three}
+use mathlib.Core.Path.{ap, ◌∙◌}
 use native.Mathlib.Omega.{arith}
-use lib.ListN.{length-set}
+use lib.Seq.{sets}
+use Rattle.image.proofs.Parts.{part_stored}
 use Rattle.image_writer.proofs.bytes.put_four.Goals as goal
 
-pub bounds-out-at-2 : goal.bounds-out-at-2
-bounds-out-at-2 c = simp length-set (omega arith)
-
-pub bounds-out-at-3 : goal.bounds-out-at-3
-bounds-out-at-3 c = simp length-set (omega arith)
-
-pub bounds-out-at-4 : goal.bounds-out-at-4
-bounds-out-at-4 c = simp length-set (omega arith)
-
-pub shape_of-out : goal.shape_of-out
-shape_of-out c = simp length-set
-
 pub returns : goal.returns
-returns c = rw (add-one, add-two, add-three)
+returns c =
+    let a = c.args in
+    part_stored a.at _ a.out.now _ (omega (arith, c.copy_from_slice.ensures.len)) (omega arith) ∙ ap (sets a.out.now a.at) c.copy_from_slice.ensures.after

@@ -1,18 +1,15 @@
-use native.Mathlib.Numerals.{add-one, add-two}
+use Prim.Native.Nat.{◌+◌}
+use mathlib.Core.Path.{ap₂, ◌∙◌}
+use native.Mathlib.Numerals.{add-one}
 use native.Mathlib.Omega.{arith}
-use lib.ListN.{length-set}
-use Rattle.image.specs.Bytes.{bytes_of}
+use lib.ListN.{set, length-set}
+use lib.Seq.{sets}
+use Rattle.image.proofs.Parts.{part_stored, two_low_first}
 use Rattle.image_writer.proofs.bytes.put_header.Goals as goal
 
-pub bounds-out-at-2 : goal.bounds-out-at-2
-bounds-out-at-2 c = simp length-set (omega arith)
-
-pub bounds-out-at-3 : goal.bounds-out-at-3
-bounds-out-at-3 c = simp length-set (omega arith)
-
-pub shape_of-out : goal.shape_of-out
-shape_of-out c = simp length-set
-
 pub returns : goal.returns
-unfolding bytes_of
-returns c = rw (add-one, add-two)
+returns c =
+    let a = c.args in
+    let size = c.copy_from_slice.ensures.after ∙ c.to_le_bytes.ensures ∙ two_low_first a.size in
+    part_stored (a.at + 1) _ (set a.out.now a.at a.tag) _ (omega (arith, c.copy_from_slice.ensures.len)) (omega (arith, length-set a.out.now a.at a.tag))
+    ∙ ap₂ (sets (set a.out.now a.at a.tag)) (add-one a.at) size

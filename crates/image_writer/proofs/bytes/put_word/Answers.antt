@@ -1,6 +1,6 @@
-use Rattle.image.specs.Bytes.{bytes_of}
+use borrow.Author.Rules.{rules}
+use Rattle.image.proofs.Parts.{four_low_first}
 use Rattle.image_writer.proofs.bytes.put_word.Goals as goal
 
 pub returns : goal.returns
-unfolding bytes_of
-returns c = c.put_four.ensures
+returns c = search (rules, four_low_first)
