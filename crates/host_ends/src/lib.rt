@@ -13,7 +13,7 @@ use gate_machine::{GateAnswer, GateResult};
 use host_words::{put_machine, put_state};
 use image::{ReadAnswer, ReadResult, WriteAnswer};
 use interpreter::{FileAnswer, FileResult, RunResult};
-use places::{put_one, put_three, put_two};
+use places::put_result;
 use refusals::refusal_number;
 use traverses::{TraverseAnswer, TraverseResult};
 
@@ -24,7 +24,7 @@ pub fn end_run(r: RunResult, machine: &mut [u32], res: &mut [u64]) -> u32
     let code = run_code(answer);
     if carried_out(code) {
         put_machine(r.machine, machine);
-        put_three(r.ran as u64, r.clocks, r.position as u64, res);
+        put_result([r.ran as u64, r.clocks, r.position as u64], res);
     }
     code
 }
@@ -36,16 +36,16 @@ pub fn end_file_run(r: FileResult, machine: &mut [u32], res: &mut [u64]) -> u32
     match answer {
         FileAnswer::Refused(why) => refusal_number(why),
         FileAnswer::Undone => {
-            put_two(r.ran as u64, r.pairs as u64, res);
+            put_result([r.ran as u64, r.pairs as u64], res);
             STOPPED
         }
         FileAnswer::Full => {
-            put_two(r.ran as u64, r.pairs as u64, res);
+            put_result([r.ran as u64, r.pairs as u64], res);
             JOURNAL_FULL
         }
         FileAnswer::Finished => {
             put_machine(r.machine, machine);
-            put_two(r.ran as u64, r.pairs as u64, res);
+            put_result([r.ran as u64, r.pairs as u64], res);
             DONE
         }
     }
@@ -60,7 +60,7 @@ pub fn end_gate_run(r: GateResult, state: &mut [u32], res: &mut [u64]) -> u32
         GateAnswer::Refused(why) => refusal_number(why),
         GateAnswer::Ran => {
             put_state(r.state, state);
-            put_one(outcome.finished, res);
+            put_result([outcome.finished], res);
             DONE
         }
     }
@@ -73,21 +73,21 @@ pub fn end_traverse(r: TraverseResult, machine: &mut [u32], res: &mut [u64]) -> 
     match answer {
         TraverseAnswer::Refused(why) => refusal_number(why),
         TraverseAnswer::Undone(file) => {
-            put_three(file as u64, r.ran as u64, r.pairs as u64, res);
+            put_result([file as u64, r.ran as u64, r.pairs as u64], res);
             STOPPED
         }
         TraverseAnswer::Full(file) => {
-            put_three(file as u64, r.ran as u64, r.pairs as u64, res);
+            put_result([file as u64, r.ran as u64, r.pairs as u64], res);
             JOURNAL_FULL
         }
         TraverseAnswer::Finished => {
             put_machine(r.machine, machine);
-            put_three(0, r.ran as u64, r.pairs as u64, res);
+            put_result([0, r.ran as u64, r.pairs as u64], res);
             DONE
         }
         TraverseAnswer::Marked(files) => {
             put_machine(r.machine, machine);
-            put_three(files, r.ran as u64, r.pairs as u64, res);
+            put_result([files, r.ran as u64, r.pairs as u64], res);
             DONE
         }
     }
@@ -101,7 +101,7 @@ pub fn end_read(r: ReadResult, machine: &mut [u32], res: &mut [u64]) -> u32
         ReadAnswer::Refused(why) => refusal_number(why),
         ReadAnswer::Loaded(words, version) => {
             put_machine(r.machine, machine);
-            put_two(words as u64, version as u64, res);
+            put_result([words as u64, version as u64], res);
             DONE
         }
     }
@@ -113,7 +113,7 @@ pub fn end_write(r: WriteAnswer, res: &mut [u64]) -> u32
     match r {
         WriteAnswer::Refused(why) => refusal_number(why),
         WriteAnswer::Written(size) => {
-            put_one(size as u64, res);
+            put_result([size as u64], res);
             DONE
         }
     }

@@ -7,4 +7,4 @@ pub returns-in-Refused : goal.returns-in-Refused
 returns-in-Refused c = ends-refused _ _ _ _ _ _ _ _ turned_down c.in-Refused.why (ap read_number c.in-Refused.is) _ c.refusal_number.ensures
 
 pub returns-in-Loaded : goal.returns-in-Loaded
-returns-in-Loaded c = read_done _ _ _ _ _ _ _ c.in-Loaded.is c.put_machine.ensures c.put_two.ensures
+returns-in-Loaded c = read_done _ _ _ _ _ _ _ c.in-Loaded.is c.put_machine.ensures c.put_result.ensures

@@ -5,4 +5,4 @@ pub returns-in-Refused : goal.returns-in-Refused
 returns-in-Refused c = write_refused _ _ _ c.in-Refused.is _ c.refusal_number.ensures
 
 pub returns-in-Written : goal.returns-in-Written
-returns-in-Written c = write_done _ _ _ c.in-Written.is _ c.put_one.ensures
+returns-in-Written c = write_done _ _ _ c.in-Written.is _ c.put_result.ensures
