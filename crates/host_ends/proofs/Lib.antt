@@ -1,3 +1,2 @@
 mod Ends
-mod Placed
 pub mod Fitting

@@ -14,7 +14,7 @@ use host_words::{put_machine, put_state};
 use image::{LoadedImage, ReadResult};
 use interpreter::{FileEnding, FileResult, RunResult};
 use model::Refusal;
-use places::{put_one, put_three, put_two};
+use places::put_result;
 use refusals::refusal_number;
 use traverses::{TraverseEnding, TraverseResult};
 
@@ -25,7 +25,7 @@ pub fn end_run(r: RunResult, machine: &mut [u32], res: &mut [u64]) -> u32
     let code = run_code(answer);
     if carried_out(code) {
         put_machine(r.machine, machine);
-        put_three(r.ran as u64, r.clocks, r.position as u64, res);
+        put_result([r.ran as u64, r.clocks, r.position as u64], res);
     }
     code
 }
@@ -37,16 +37,16 @@ pub fn end_file_run(r: FileResult, machine: &mut [u32], res: &mut [u64]) -> u32
     match answer {
         Err(why) => refusal_number(why),
         Ok(FileEnding::Undone) => {
-            put_two(r.ran as u64, r.pairs as u64, res);
+            put_result([r.ran as u64, r.pairs as u64], res);
             STOPPED
         }
         Ok(FileEnding::Full) => {
-            put_two(r.ran as u64, r.pairs as u64, res);
+            put_result([r.ran as u64, r.pairs as u64], res);
             JOURNAL_FULL
         }
         Ok(FileEnding::Finished) => {
             put_machine(r.machine, machine);
-            put_two(r.ran as u64, r.pairs as u64, res);
+            put_result([r.ran as u64, r.pairs as u64], res);
             DONE
         }
     }
@@ -60,7 +60,7 @@ pub fn end_gate_run(r: GateResult, state: &mut [u32], res: &mut [u64]) -> u32
         Err(why) => refusal_number(why),
         Ok(finished) => {
             put_state(r.state, state);
-            put_one(finished, res);
+            put_result([finished], res);
             DONE
         }
     }
@@ -73,21 +73,21 @@ pub fn end_traverse(r: TraverseResult, machine: &mut [u32], res: &mut [u64]) -> 
     match answer {
         Err(why) => refusal_number(why),
         Ok(TraverseEnding::Undone(file)) => {
-            put_three(file as u64, r.ran as u64, r.pairs as u64, res);
+            put_result([file as u64, r.ran as u64, r.pairs as u64], res);
             STOPPED
         }
         Ok(TraverseEnding::Full(file)) => {
-            put_three(file as u64, r.ran as u64, r.pairs as u64, res);
+            put_result([file as u64, r.ran as u64, r.pairs as u64], res);
             JOURNAL_FULL
         }
         Ok(TraverseEnding::Finished) => {
             put_machine(r.machine, machine);
-            put_three(0, r.ran as u64, r.pairs as u64, res);
+            put_result([0, r.ran as u64, r.pairs as u64], res);
             DONE
         }
         Ok(TraverseEnding::Marked(files)) => {
             put_machine(r.machine, machine);
-            put_three(files, r.ran as u64, r.pairs as u64, res);
+            put_result([files, r.ran as u64, r.pairs as u64], res);
             DONE
         }
     }
@@ -101,7 +101,7 @@ pub fn end_read(r: ReadResult, machine: &mut [u32], res: &mut [u64]) -> u32
         Err(why) => refusal_number(why),
         Ok(LoadedImage { words, version }) => {
             put_machine(r.machine, machine);
-            put_two(words as u64, version as u64, res);
+            put_result([words as u64, version as u64], res);
             DONE
         }
     }
@@ -113,7 +113,7 @@ pub fn end_write(r: Result<usize, Refusal>, res: &mut [u64]) -> u32
     match r {
         Err(why) => refusal_number(why),
         Ok(size) => {
-            put_one(size as u64, res);
+            put_result([size as u64], res);
             DONE
         }
     }

@@ -1,2 +1,1 @@
 mod Copies
-pub mod Laid

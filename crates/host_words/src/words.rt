@@ -1,4 +1,4 @@
-// The words of a machine and of a gate state.
+// The words of a machine and of a gate state, each written out: the fields differ in name and type, so no loop or chain makes them plainer.
 ghost use Rattle.std.specs.Prelude.{◌≡◌};
 ghost use Rattle.model.specs.Packed.{latch_words};
 ghost use Rattle.host_words.specs.Words.{machine_words};

@@ -4,7 +4,8 @@ ghost use Rattle.std.proofs.lemmas.List.Edits.{sets};
 ghost use Rattle.arithmetic.specs.Words.{as_number};
 ghost use Rattle.text.specs.Text.{digit, digits, digit_count};
 
-pub fn put_byte(out: &mut [u8], at: usize, byte: u8)
+// By index: once the borrow from a slice's `get_mut` is over, the library's contract tells no byte of the slice.
+fn put_byte(out: &mut [u8], at: usize, byte: u8)
     ensures { out.new ≡ set out.old at byte }
 {
     if at < out.len() {
@@ -17,9 +18,9 @@ fn digit_of(d: u64) -> u8
     ensures { result ≡ digit d }
 {
     if d < 10 {
-        0x30 + d as u8
+        b'0' + d as u8
     } else {
-        0x37 + d as u8
+        b'A' + (d as u8 - 10)
     }
 }
 
@@ -35,17 +36,15 @@ pub fn put_digits(out: &mut [u8], at: usize, base: u64, count: usize, n: u64)
     ensures { out.new ≡ sets out.old at (digits base count n) }
 {
     if at < out.len() {
-        let mut left = count;
         let mut rest = n;
-        while 0 < left {
-            left -= 1;
-            put_byte(out, at + left, digit_of(rest % base));
+        for place in (0..count).rev() {
+            put_byte(out, at + place, digit_of(rest % base));
             rest /= base;
         }
     }
 }
 
-// How many decimal digits `n` has.
+// How many decimal digits `n` has. A `while`, as it counts divisions by ten and goes over no range.
 pub fn count_digits(n: u64) -> usize
     ensures { result ≡ digit_count n n }
 {

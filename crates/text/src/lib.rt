@@ -6,19 +6,16 @@ mod digits;
 
 ghost use Rattle.text.specs.Text.{decimal, hexadecimal, flag_digits, Puts};
 
-use digits::{count_digits, flag_digit, put_byte, put_digits};
+use digits::{count_digits, flag_digit, put_digits};
 use model::Flags;
 
-// Plain bytes. A text that begins past the end is left out at once, so that no place is too large a number.
+// Plain bytes, as many as there is room for. A text that begins past the end is left out at once, so that no place is too large a number.
 pub fn put_text(out: &mut [u8], at: usize, text: &[u8]) -> usize
     ensures { Puts out.old at text.now out.new result }
 {
     if at < out.len() {
-        let mut i = 0;
-        while i < text.len() {
-            put_byte(out, at + i, text[i]);
-            i += 1;
-        }
+        let fits = text.len().min(out.len() - at);
+        out[at..at + fits].copy_from_slice(&text[..fits]);
     }
     text.len()
 }
@@ -44,9 +41,6 @@ pub fn put_hexadecimal(out: &mut [u8], at: usize, word: u32) -> usize
 pub fn put_flag_digits(out: &mut [u8], at: usize, flags: Flags) -> usize
     ensures { Puts out.old at (flag_digits flags) out.new result }
 {
-    let c = flag_digit(flags.carry);
-    let v = flag_digit(flags.overflow);
-    let n = flag_digit(flags.negative);
-    let z = flag_digit(flags.zero);
-    put_text(out, at, &[c, v, n, z])
+    let in_order = [flags.carry, flags.overflow, flags.negative, flags.zero];
+    put_text(out, at, &in_order.map(flag_digit))
 }

@@ -6,12 +6,5 @@ ghost use Rattle.model.specs.Resets.{rises};
 pub fn rise(resets: &[u64]) -> bool
     ensures { result ≡ rises resets.now }
 {
-    let mut next: usize = 1;
-    while next < resets.len() {
-        if resets[next] <= resets[next - 1] {
-            return false;
-        }
-        next += 1;
-    }
-    true
+    resets.is_sorted_by(|before, next| before < next)
 }

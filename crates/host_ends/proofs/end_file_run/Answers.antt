@@ -11,7 +11,7 @@ pub returns-in-Undone : goal.returns-in-Undone
 returns-in-Undone c = file-stopped _ _ _ _ _ refl refl c.in-Undone.is (search rules)
 
 pub returns-in-Full : goal.returns-in-Full
-returns-in-Full c = file-stopped _ _ _ _ _ refl refl c.in-Full.is c.put_two-in-Full.ensures
+returns-in-Full c = file-stopped _ _ _ _ _ refl refl c.in-Full.is c.put_result-in-Full.ensures
 
 pub returns-in-Finished : goal.returns-in-Finished
-returns-in-Finished c = file-finished _ _ _ _ _ c.in-Finished.is c.put_machine.ensures c.put_two-in-Finished.ensures
+returns-in-Finished c = file-finished _ _ _ _ _ c.in-Finished.is c.put_machine.ensures c.put_result-in-Finished.ensures

@@ -7,4 +7,4 @@ pub returns-in-Err : goal.returns-in-Err
 returns-in-Err c = ends-refused _ _ _ _ _ _ _ _ turned_down c.in-Err.why (ap read_number c.in-Err.is) _ c.refusal_number.ensures
 
 pub returns-in-Loaded : goal.returns-in-Loaded
-returns-in-Loaded c = read_done _ _ _ _ _ _ _ c.in-Loaded.is c.put_machine.ensures c.put_two.ensures
+returns-in-Loaded c = read_done _ _ _ _ _ _ _ c.in-Loaded.is c.put_machine.ensures c.put_result.ensures

@@ -5,4 +5,4 @@ pub returns-in-Err : goal.returns-in-Err
 returns-in-Err c = write_refused _ _ _ c.in-Err.is _ c.refusal_number.ensures
 
 pub returns-in-Written : goal.returns-in-Written
-returns-in-Written c = write_done _ _ _ c.in-Written.is _ c.put_one.ensures
+returns-in-Written c = write_done _ _ _ c.in-Written.is _ c.put_result.ensures

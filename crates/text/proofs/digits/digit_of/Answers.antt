@@ -1,8 +1,9 @@
 use borrow.Author.Tests.{lt-ltb, le-ltb}
+use native.Mathlib.Omega.{arith}
 use Rattle.text.proofs.digits.digit_of.Goals as goal
 
 pub returns-then-d-lt10 : goal.returns-then-d-lt10
 returns-then-d-lt10 c = rw (lt-ltb _ _ c.if-d-lt10.true)
 
 pub returns-else-d-lt10 : goal.returns-else-d-lt10
-returns-else-d-lt10 c = rw (le-ltb _ _ c.if-d-lt10.false)
+returns-else-d-lt10 c = rw (le-ltb _ _ c.if-d-lt10.false) (omega arith)
