@@ -1,14 +1,18 @@
--- The files of a flat list, one by one; the sum and the test over the files from one on.
-use Prim.Native.Nat.{ℕ, zero, suc, ◌+◌, ◌*◌, ◌/◌, ◌≤◌, ◌<◌}
+-- The files of a flat list, one by one; the sum over the files from one on; the test of each.
+use Prim.Native.Nat.{ℕ, zero, suc, ◌+◌, ◌/◌, ◌≤◌, ◌<◌}
 use mathlib.Core.Path.{◌≡◌, refl, sym, ap, ◌∙◌}
-use mathlib.Core.Bool.{Bool, true, false, ◌&&◌}
-use mathlib.Core.List.{List, [], ◌∷◌}
-use native.Mathlib.Nat.{add-zero}
+use mathlib.Core.Bool.{Bool, ◌&&◌}
+use mathlib.Core.List.{List, [], ◌∷◌, map}
 use native.Mathlib.Numerals.{add-one}
 use native.Mathlib.Omega.{arith}
-use lib.ListN.{length, get_or, drop, drop_of_length-le, get_or-eq_default}
-use lib.Seq.{drop-cons, drop-drop, get_or-drop}
-use Rattle.model.specs.Words.{word_at}
+use lib.ListN.{length, get_or, take, drop, drop_of_length-le}
+use lib.Seq.{drop-cons}
+use Rattle.std.proofs.Math.ListN.{get_or-map}
+use Rattle.std.proofs.lemmas.List.{get_or-take}
+use Rattle.std.specs.Simd.{first_chunks}
+use Rattle.std.specs.List.{list_all, range_with_len}
+use Rattle.std.proofs.lemmas.List.Folds.{list_all-map}
+use Rattle.std.proofs.lemmas.List.FromFn.{fill_by_all}
 use Rattle.traverses.specs.declared.File.{File}
 use Rattle.traverses.specs.Files.{file_in, files_from, files_in, file_at, sizes, placed, all_placed}
 
@@ -23,23 +27,19 @@ pub files-length : (list : List ℕ) → length (files_in list) ≡ length list 
 unfolding files_in
 files-length list = from_length (length list / 4) list
 
-from_at : (n i : ℕ) (list : List ℕ) → i < n → get_or (files_from n list) i (file_in []) ≡ file_in (drop (4 * i) list)
+four : (list : List ℕ) → file_in list ≡ file_in (take 4 list)
+four list = rw (get_or-take 4 list 0 0 (omega arith), get_or-take 4 list 1 0 (omega arith), get_or-take 4 list 2 0 (omega arith), get_or-take 4 list 3 0 (omega arith))
+
+from_chunks : (n : ℕ) (list : List ℕ) → files_from n list ≡ map file_in (first_chunks 4 n list)
 unfolding files_from
-from_at zero i list h = absurd (omega arith)
-from_at (suc n) zero list h = refl
-from_at (suc n) (suc i) list h =
-    let e : 4 + 4 * i ≡ 4 * suc i = omega arith in
-    from_at n i (drop 4 list) (omega arith) ∙ ap file_in (drop-drop (4 * i) 4 list ∙ ap (λ (k : ℕ). drop k list) e)
+from_chunks zero list = refl
+from_chunks (suc n) list = ap (λ (f : File). f ∷ files_from n (drop 4 list)) (four list) ∙ ap (λ (fs : List File). file_in (take 4 list) ∷ fs) (from_chunks n (drop 4 list))
 
-module _ (list : List ℕ) (i : ℕ) where
-  pub there : i < length list / 4
-      → record { place = word_at list (4 * i); size = word_at list (4 * i + 1); entry = word_at list (4 * i + 2); count = word_at list (4 * i + 3) } ≡ file_at list i
-  unfolding files_in
-  there h =
-      rw (from_at (length list / 4) i list h, get_or-drop (4 * i) list 0 0, get_or-drop (4 * i) list 1 0, get_or-drop (4 * i) list 2 0, get_or-drop (4 * i) list 3 0, add-zero (4 * i))
-
-  pub past : length list / 4 ≤ i → record { place = 0; size = 0; entry = 0; count = 0 } ≡ file_at list i
-  past h = sym (get_or-eq_default (files_in list) (file_in []) {n = i} (rw files-length h))
+pub there : (list : List ℕ) (i : ℕ) → file_in (get_or (first_chunks 4 (length list / 4) list) i (0 ∷ 0 ∷ 0 ∷ 0 ∷ [])) ≡ file_at list i
+unfolding files_in
+there list i =
+    let n = length list / 4 in
+    sym (ap (λ (fs : List File). get_or fs i (file_in [])) (from_chunks n list) ∙ get_or-map file_in (first_chunks 4 n list) i (0 ∷ 0 ∷ 0 ∷ 0 ∷ []))
 
 -- ---- the files from one on
 
@@ -51,17 +51,6 @@ module _ (fs : List File) (i : ℕ) {f : File} (e : f ≡ get_or fs i (file_in [
   unfolding sizes
   sizes-goes sum so_far = omega (arith, ap sizes one_more)
 
-  module _ (memory : List ℕ) (bottom : ℕ) {w : Bool} (so_far : all_placed (drop i fs) memory bottom ≡ w) where
-    placed-more : (placed memory bottom f && all_placed (drop (i + 1) fs) memory bottom) ≡ w
-    unfolding all_placed
-    placed-more = sym (ap (λ (l : List File). all_placed l memory bottom) one_more) ∙ so_far
-
-    pub placed-goes : placed memory bottom f ≡ true → all_placed (drop (i + 1) fs) memory bottom ≡ w
-    placed-goes p = rw p at placed-more
-
-    pub placed-stops : placed memory bottom f ≡ false → false ≡ w
-    placed-stops p = rw p at placed-more
-
 -- after the last
 module _ (fs : List File) (i : ℕ) (h : length fs ≤ i) where
   pub none_left : drop i fs ≡ []
@@ -71,6 +60,15 @@ module _ (fs : List File) (i : ℕ) (h : length fs ≤ i) where
   unfolding sizes
   sizes-ends so_far = omega (arith, ap sizes none_left)
 
-  pub placed-ends : (memory : List ℕ) (bottom : ℕ) {w : Bool} → all_placed (drop i fs) memory bottom ≡ w → true ≡ w
+-- ---- the test of each, by its number
+
+module _ (memory : List ℕ) (bottom : ℕ) where
+  each_placed : (fs : List File) → list_all (placed memory bottom) fs ≡ all_placed fs memory bottom
   unfolding all_placed
-  placed-ends memory bottom so_far = sym (ap (λ (l : List File). all_placed l memory bottom) none_left) ∙ so_far
+  each_placed [] = refl
+  each_placed (f ∷ fs) = ap (λ (b : Bool). placed memory bottom f && b) (each_placed fs)
+
+  pub placed-all : (list : List ℕ) → list_all (λ (k : ℕ). placed memory bottom (file_at list k)) (range_with_len 0 (length (files_in list))) ≡ all_placed (files_in list) memory bottom
+  placed-all list =
+      let fs = files_in list in
+      sym (list_all-map (placed memory bottom) (file_at list) _) ∙ ap (list_all (placed memory bottom)) (sym (fill_by_all (file_at list) fs (length fs) (file_in []) refl (λ k h. refl))) ∙ each_placed fs

@@ -24,24 +24,17 @@ pub fn file_count(files: &[u32]) -> usize
     files.len() / 4
 }
 
-// File i.
+// File i; past the last one a file of no words that runs nothing.
 pub fn file_at(files: &[u32], i: usize) -> File
     ensures { result ≡ file_at files.now i }
 {
-    if i < files.len() / 4 {
-        let at = 4 * i;
-        return File {
-            place: files[at],
-            size: files[at + 1],
-            entry: files[at + 2],
-            count: files[at + 3],
-        };
-    }
+    let (list, _) = files.as_chunks::<4>();
+    let [place, size, entry, count] = *list.get(i).unwrap_or(&[0; 4]);
     File {
-        place: 0,
-        size: 0,
-        entry: 0,
-        count: 0,
+        place,
+        size,
+        entry,
+        count,
     }
 }
 

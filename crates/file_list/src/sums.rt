@@ -10,13 +10,9 @@ pub fn sizes(files: &[u32]) -> usize
     requires { length (files_in files.now) ≤ 64 }
     ensures { result ≡ sizes (files_in files.now) }
 {
-    let n = file_count(files);
     let mut sum: usize = 0;
-    let mut i: usize = 0;
-    while i < n {
-        let f = file_at(files, i);
-        sum += f.size as usize;
-        i += 1;
+    for i in 0..file_count(files) {
+        sum += file_at(files, i).size as usize;
     }
     sum
 }
@@ -34,13 +30,5 @@ fn placed(memory: &[u32], bottom: u32, f: File) -> bool
 pub fn all_placed(files: &[u32], memory: &[u32], bottom: u32) -> bool
     ensures { result ≡ all_placed (files_in files.now) memory.now bottom }
 {
-    let n = file_count(files);
-    let mut i: usize = 0;
-    while i < n {
-        if !placed(memory, bottom, file_at(files, i)) {
-            return false;
-        }
-        i += 1;
-    }
-    true
+    (0..file_count(files)).all(|i| placed(memory, bottom, file_at(files, i)))
 }

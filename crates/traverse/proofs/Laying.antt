@@ -64,14 +64,11 @@ full-lays (w ∷ ws) k place e = ap (λ (x : Kept). lay_kept x (place + 1) ws) (
 
 module _ (memory₀ journal₀ map₀ : List ℕ) (pairs₀ : ℕ) (load : List ℕ) (place : ℕ) where
   pub record At (memory journal map : List ℕ) (noted j : ℕ) : Type 0 where
-    pub below : j ≤ length load
     pub rest : (m : Machine) → lay_kept (laid_at m memory journal map noted false) (place + j) (drop j load) ≡ lay_kept (laid_at m memory₀ journal₀ map₀ pairs₀ false) place load
-    pub size : length memory ≡ length memory₀
-    pub places : length journal ≡ length journal₀
     pub marks : length map ≡ length map₀
 
 pub begins : {memory journal map : List ℕ} {pairs : ℕ} {load : List ℕ} {place : ℕ} → At memory journal map pairs load place memory journal map pairs 0
-begins = record { below = omega arith; rest = λ m. rw add-zero; size = refl; places = refl; marks = refl }
+begins = record { rest = λ m. rw add-zero; marks = refl }
 
 module _ {memory₀ journal₀ map₀ : List ℕ} {pairs₀ : ℕ} {load : List ℕ} {place : ℕ} {memory journal map : List ℕ} {noted j : ℕ}
     (a : At memory₀ journal₀ map₀ pairs₀ load place memory journal map noted j) where
@@ -83,17 +80,10 @@ module _ {memory₀ journal₀ map₀ : List ℕ} {pairs₀ : ℕ} {load : List 
         let e : drop j load ≡ word_at load j ∷ drop (j + 1) load = rw add-one (drop-cons load j 0 less) in
         ap (λ (k : Kept). lay_kept k (place + j + 1) (drop (j + 1) load)) (sym (one-laid (omega (arith, a.marks, some)) h m)) ∙ (rw e at (a.rest m))
 
-    pub turn : r.full ≡ false → length memory' ≡ length memory → length journal' ≡ length journal → length map' ≡ length map
-        → At memory₀ journal₀ map₀ pairs₀ load place memory' journal' map' r.pairs (j + 1)
-    turn f lm lj lp =
+    pub turn : r.full ≡ false → length map' ≡ length map → At memory₀ journal₀ map₀ pairs₀ load place memory' journal' map' r.pairs (j + 1)
+    turn f lp =
         let step : place + (j + 1) ≡ place + j + 1 = omega arith in
-        record {
-          below = omega arith;
-          rest = λ m. rw step (rw f at (next m));
-          size = lm ∙ a.size;
-          places = lj ∙ a.places;
-          marks = lp ∙ a.marks;
-        }
+        record { rest = λ m. rw step (rw f at (next m)); marks = lp ∙ a.marks }
 
     pub stops : r.full ≡ true → Lays memory₀ journal₀ map₀ pairs₀ load place memory' journal' map' r
     stops f m = sym (next m) ∙ full-lays (drop (j + 1) load) (laid_at m memory' journal' map' r.pairs r.full) (place + j + 1) f

@@ -59,7 +59,6 @@ module _ (memory₀ : List ℕ) (bottom : ℕ) (journal₀ load files : List ℕ
     pub low : w.undone < 2 ^ i
     pub laid : w.at + sizes (drop i fs) ≡ length load
     pub placed : all_placed (drop i fs) memory₀ bottom ≡ true
-    pub below : i ≤ length fs
     pub size : length memory ≡ length memory₀
     pub long : length journal ≡ length journal₀
     pub marks : length map ≡ 49184
@@ -85,7 +84,6 @@ module _ {memory : List ℕ} {bottom : ℕ} {journal load files : List ℕ} {sta
         low = omega arith;
         laid = zero-add _ ∙ b.laid;
         placed = b.placed;
-        below = omega arith;
         size = refl;
         long = refl;
         marks = length-replicate {A = ℕ} 49184 0;
@@ -276,7 +274,6 @@ module _ {memory₀ : List ℕ} {bottom : ℕ} {journal₀ load files : List ℕ
           low = subst (λ (x : ℕ). x < 2 ^ (i + 1)) (sym (ap (λ (x : Walk). x.undone) walked)) (small w.undone i a.low (kept_done kept));
           laid = omega (arith, at-is, a.laid, sizes-here);
           placed = placed-here.1;
-          below = omega arith;
           size = lm ∙ a.size;
           long = lj ∙ a.long;
           marks = lp ∙ a.marks;

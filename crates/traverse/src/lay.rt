@@ -38,16 +38,12 @@ pub fn lay(
     ensures { Lays memory.old journal.old map.old pairs words.now place memory.new journal.new map.new result }
 {
     let mut noted = pairs;
-    let mut j: usize = 0;
-    while j < words.len() {
-        let word = words[j];
-        let address = place + (j as u32);
-        let n = lay_one(memory, journal, map, noted, address, word);
+    for (j, word) in words.iter().enumerate() {
+        let n = lay_one(memory, journal, map, noted, place + (j as u32), *word);
         if n.full {
             return n;
         }
         noted = n.pairs;
-        j += 1;
     }
     Noting {
         full: false,

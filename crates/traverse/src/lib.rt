@@ -50,10 +50,8 @@ fn carry_out(
     ensures { Traverses memory.old bottom journal.old words.now files.now start version memory.new journal.new result }
 {
     let mut map: [u32; 49_184] = [0; 49_184];
-    let n = file_count(files);
     let mut w = set_out(start);
-    let mut i: usize = 0;
-    while i < n {
+    for i in 0..file_count(files) {
         w = next(
             memory, bottom, journal, &mut map, words, files, version, i, w,
         );
@@ -65,7 +63,6 @@ fn carry_out(
                 pairs: w.pairs,
             };
         }
-        i += 1;
     }
     let machine = w.machine;
     TraverseResult {

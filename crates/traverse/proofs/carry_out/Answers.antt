@@ -1,5 +1,3 @@
-use Prim.Native.Nat.{◌-◌}
-use mathlib.Core.Path.{sym, ◌∙◌}
 use native.Mathlib.Omega.{arith}
 use Rattle.traverses.proofs.Reasons.{bounded}
 use Rattle.traverse.proofs.Turns.{begins, next_fits, turn}
@@ -9,38 +7,17 @@ use Rattle.traverse.proofs.carry_out.Goals as goal
 pub loop-i-init : goal.loop-i-init
 loop-i-init c = rw c.set_out-w.ensures (begins (bounded _ _ _ _ _ c.requires))
 
-pub slice_bounds-next-end : goal.slice_bounds-next-end
-slice_bounds-next-end c = sym c.loop-i.invariant.marks
-
 pub next-w-requires : goal.next-w-requires
-next-w-requires c = next_fits (bounded _ _ _ _ _ c.requires) c.loop-i.invariant (omega (arith, c.file_count-n.ensures, c.loop-i-test.true))
+next-w-requires c = next_fits (bounded _ _ _ _ _ c.requires) c.loop-i.invariant (omega (arith, c.file_count-i-end.ensures, c.loop-i-test.true))
 
 pub overflow_cast-i : goal.overflow_cast-i
-overflow_cast-i c = omega (arith, (bounded _ _ _ _ _ c.requires).number, c.file_count-n.ensures, c.loop-i-test.true)
-
-pub shape_of-memory-then-version-w : goal.shape_of-memory-then-version-w
-shape_of-memory-then-version-w c = c.next-w.auto.memory ∙ c.loop-i.invariant.size
-
-pub shape_of-journal-then-version-w : goal.shape_of-journal-then-version-w
-shape_of-journal-then-version-w c = c.next-w.auto.journal ∙ c.loop-i.invariant.long
+overflow_cast-i c = omega (arith, (bounded _ _ _ _ _ c.requires).number, c.file_count-i-end.ensures, c.loop-i-test.true)
 
 pub returns-then-version-w : goal.returns-then-version-w
-returns-then-version-w c = taken _ _ _ _ _ _ _ c.requires c.loop-i.invariant (omega (arith, c.file_count-n.ensures, c.loop-i-test.true)) c.next-w.ensures c.if-version-w.true c.stopped.ensures
-
-pub overflow_add-i : goal.overflow_add-i
-overflow_add-i c = omega arith
-
-pub loop-i-smaller : goal.loop-i-smaller
-loop-i-smaller c = omega arith
+returns-then-version-w c = taken _ _ _ _ _ _ _ c.requires c.loop-i.invariant (omega (arith, c.file_count-i-end.ensures, c.loop-i-test.true)) c.next-w.ensures c.if-version-w.true c.stopped.ensures
 
 pub loop-i-preserved : goal.loop-i-preserved
-loop-i-preserved c = turn (bounded _ _ _ _ _ c.requires) c.loop-i.invariant (omega (arith, c.file_count-n.ensures, c.loop-i-test.true)) c.next-w.ensures c.if-version-w.false c.next-w.auto.memory c.next-w.auto.journal c.next-w.auto.map
-
-pub shape_of-memory : goal.shape_of-memory
-shape_of-memory c = c.loop-i.invariant.size
-
-pub shape_of-journal : goal.shape_of-journal
-shape_of-journal c = c.loop-i.invariant.long
+loop-i-preserved c = turn (bounded _ _ _ _ _ c.requires) c.loop-i.invariant (omega (arith, c.file_count-i-end.ensures, c.loop-i-test.true)) c.next-w.ensures c.if-version-w.false c.next-w.auto.memory c.next-w.auto.journal c.next-w.auto.map
 
 pub returns : goal.returns
-returns c = all-run _ _ _ _ _ _ _ c.requires c.loop-i.invariant (omega (arith, c.file_count-n.ensures, c.loop-i-test.false)) c.ended.ensures
+returns c = all-run _ _ _ _ _ _ _ c.requires c.loop-i.invariant (omega (arith, c.file_count-i-end.ensures, c.loop-i-test.false)) c.ended.ensures

@@ -1,33 +1,14 @@
-use Prim.Native.Nat.{◌-◌, ◌<◌}
-use mathlib.Core.Path.{refl, sym, ◌∙◌}
-use native.Mathlib.Omega.{arith}
-use lib.ListN.{length}
-use Rattle.traverses.specs.Files.{files_in}
-use Rattle.file_list.proofs.Lists.{placed-goes, placed-stops, placed-ends}
+use Rattle.std.proofs.Common.{rules, refl, ◌∙◌, ap, ℕ, arith, tests}
+use Rattle.std.proofs.lemmas.Iterator.{YieldsList-from_range}
+use Rattle.std.proofs.lemmas.Iterator.Search.{all_from_yields_List}
+use Rattle.std.specs.List.{list_all, range_with_len}
+use Rattle.traverses.specs.Files.{file_at, placed}
+use Rattle.file_list.proofs.Lists.{placed-all}
 use Rattle.file_list.proofs.sums.all_placed.Goals as goal
-
-pub loop-i-init : goal.loop-i-init
-loop-i-init c = (omega arith, refl)
-
-pub returns-then-not-placed : goal.returns-then-not-placed
-returns-then-not-placed c =
-    let fs = files_in c.args.files.now in
-    let below : c.loop-i.i < length fs = omega (arith, c.file_count-n.ensures) in
-    placed-stops fs c.loop-i.i c.file_at.ensures below _ _ c.loop-i.invariant.1 (sym c.placed.ensures ∙ c.if-not-placed.true)
-
-pub overflow_add-i : goal.overflow_add-i
-overflow_add-i c = omega arith
-
-pub loop-i-smaller : goal.loop-i-smaller
-loop-i-smaller c = omega arith
-
-pub loop-i-preserved : goal.loop-i-preserved
-loop-i-preserved c =
-    let fs = files_in c.args.files.now in
-    let below : c.loop-i.i < length fs = omega (arith, c.file_count-n.ensures) in
-    (omega arith, placed-goes fs c.loop-i.i c.file_at.ensures below _ _ c.loop-i.invariant.1 (sym c.placed.ensures ∙ c.if-not-placed.false))
 
 pub returns : goal.returns
 returns c =
-    let fs = files_in c.args.files.now in
-    placed-ends fs c.loop-i.i (omega (arith, c.file_count-n.ensures)) _ _ c.loop-i.invariant.1
+    let args = c.args in
+    let test : ℕ → _ = λ i. placed args.memory.now args.bottom (file_at args.files.now i) in
+    all_from_yields_List test _ _ _ c.all.ensures.ran (YieldsList-from_range 0 c.file_count.result c.file_count.result refl (omega arith)) (λ x b q k. search (rules, tests))
+    ∙ ap (λ (n : ℕ). list_all test (range_with_len 0 n)) c.file_count.ensures ∙ placed-all args.memory.now args.bottom args.files.now
