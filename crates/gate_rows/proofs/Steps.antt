@@ -11,7 +11,7 @@ use Rattle.model.specs.Operands.{operand_a, operand_b, in_memory}
 use Rattle.model.specs.GateMachine.{Gate, gate, with_row, rows, work}
 use Rattle.model.proofs.Cases.{Each, past, ◌▸◌}
 use Rattle.step_table.specs.declared.Step.{Step}
-use Rattle.step_table.specs.Table.{step_table, step_of, memory_row, marks_finish, marks_stay}
+use Rattle.step_table.specs.Table.{step_table, step_of, marks_finish, marks_stay}
 use Rattle.step_table.proofs.Table.{stay_mark}
 use Rattle.gate_rows.specs.declared.latches.Latches.{Latches}
 use Rattle.gate_rows.specs.Work.{state_of, leads, Works, counted}
@@ -66,4 +66,4 @@ unfolding step_of step_table
 stays_on bottom s step regs memory own stays w =
     let in-12 : s.row ≡ 12 = stay_mark s.row (sym (ap marks_stay own) ∙ stays) in
     let last : step ≡ step_of 12 = own ∙ ap step_of in-12 in
-    ap (λ (t : GateState). t.row) w.state ∙ ap (leads step (state_of regs s) memory) in-12 ∙ ap memory_row last
+    ap (λ (t : GateState). t.row) w.state ∙ ap (leads step (state_of regs s) memory) in-12 ∙ ap (λ (t : Step). t.memory) last

@@ -7,7 +7,6 @@ use Rattle.model.specs.Operands.{operand_a, operand_b, in_memory}
 use Rattle.model.specs.Alu.{stores}
 use Rattle.model.specs.GateMachine.{state_with, gate, with_row, work}
 use Rattle.step_table.specs.declared.Step.{Step}
-use Rattle.step_table.specs.Table.{memory_row, direct_row, skipped_row}
 use Rattle.gate_rows.specs.declared.latches.Latches.{Latches}
 
 -- registers and latches are a state of the gate machine
@@ -23,30 +22,30 @@ Becomes s f s' = (regs : List ℕ) → state_of regs s' ≡ f (state_of regs s)
 
 -- from row 1 with the word that was read, from the row of an operand o, and from row 7
 abbrev pub read_row : Step → ℕ → ℕ
-read_row step word = cond (is_instruction word) (memory_row step) (skipped_row step)
+read_row step word = cond (is_instruction word) step.memory step.skipped
 
 abbrev pub operand_row : Step → Operand → ℕ
-operand_row step o = cond (in_memory o) (memory_row step) (direct_row step)
+operand_row step o = cond (in_memory o) step.memory step.direct
 
 abbrev pub store_row : Step → GateState → ℕ
-store_row step s = cond (stores s.instruction s.flags) (operand_row step (operand_b s.instruction)) (skipped_row step)
+store_row step s = cond (stores s.instruction s.flags) (operand_row step (operand_b s.instruction)) step.skipped
 
 -- from each row
 abbrev pub next_rows : Step → GateState → List ℕ → List ℕ
 next_rows step s memory =
-    memory_row step
+    step.memory
     ∷ read_row step (word_at memory s.address)
-    ∷ memory_row step
+    ∷ step.memory
     ∷ operand_row step (operand_a s.instruction)
-    ∷ memory_row step
+    ∷ step.memory
     ∷ operand_row step (operand_b s.instruction)
-    ∷ memory_row step
+    ∷ step.memory
     ∷ store_row step s
-    ∷ memory_row step
-    ∷ memory_row step
-    ∷ memory_row step
-    ∷ memory_row step
-    ∷ memory_row step
+    ∷ step.memory
+    ∷ step.memory
+    ∷ step.memory
+    ∷ step.memory
+    ∷ step.memory
     ∷ []
 
 -- from row r; past the table the row stays

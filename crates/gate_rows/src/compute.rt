@@ -2,7 +2,6 @@
 ghost use Rattle.std.specs.Prelude.{◌≡◌, cond, []};
 ghost use Rattle.model.specs.Alu.{alu};
 ghost use Rattle.model.specs.GateMachine.{with_row, compute};
-ghost use Rattle.step_table.specs.Table.{memory_row, direct_row, skipped_row};
 ghost use Rattle.gate_rows.specs.Work.{Becomes, store_row};
 
 use super::latches::Latches;
@@ -27,18 +26,19 @@ fn unit_of(word: u32, flags: Flags, a: u32, b: u32) -> AluOut
 
 // One of a step's three next rows.
 fn chosen(stored: bool, mem: bool, step: Step) -> u8
-    ensures { result ≡ cond stored (cond mem (memory_row step) (direct_row step)) (skipped_row step) }
+    ensures { result ≡ cond stored (cond mem step.memory step.direct) step.skipped }
 {
-    let Step(memory, direct, skipped, _) = step;
-    if stored {
-        if mem { memory } else { direct }
+    if !stored {
+        step.skipped
+    } else if mem {
+        step.memory
     } else {
-        skipped
+        step.direct
     }
 }
 
 // Storing is decided on the flags before the instruction.
-pub fn compute(mut s: Latches, step: Step) -> Latches
+pub fn compute(s: Latches, step: Step) -> Latches
     ensures { Becomes s (λ t. with_row (store_row step t) (compute [] t)) result }
 {
     let word = s.instruction;
@@ -50,8 +50,10 @@ pub fn compute(mut s: Latches, step: Step) -> Latches
         in_memory(operand_b(word)),
         step,
     );
-    s.flags = after;
-    s.result = out.result;
-    s.row = next;
-    s
+    Latches {
+        flags: after,
+        result: out.result,
+        row: next,
+        ..s
+    }
 }

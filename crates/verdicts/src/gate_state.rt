@@ -4,17 +4,14 @@ ghost use Rattle.model.specs.GateMachine.{is_access};
 ghost use Rattle.model.specs.Refusals.{access_formed};
 
 use model::GateState;
-use step_table::{ACCESS, LAST_ROW, Step, steps};
+use step_table::{LAST_ROW, Mark, steps};
 
 // What the step table marks as an access; past the table there is none.
 fn is_access(row: u8) -> bool
     ensures { result ≡ is_access row }
 {
     if row <= LAST_ROW {
-        let table = steps();
-        let step = table[row as usize];
-        let Step(_, _, _, mark) = step;
-        return mark == ACCESS;
+        return steps()[row as usize].mark == Mark::Access;
     }
     false
 }

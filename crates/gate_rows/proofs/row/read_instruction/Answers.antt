@@ -1,13 +1,8 @@
-use mathlib.Core.Bool.{true, false}
-use Rattle.gate_rows.proofs.Rows.{reads-row}
+use mathlib.Core.Path.{◌∙◌}
 use Rattle.gate_rows.proofs.row.read_instruction.Goals as goal
 
 pub returns-then-is_instruction : goal.returns-then-is_instruction
-returns-then-is_instruction c =
-    let args = c.args in
-    reads-row args.step args.s args.word true c.is_instruction.ensures c.if-is_instruction.true c.latch_instruction.ensures
+returns-then-is_instruction c = λ regs. c.with_instruction.ensures regs ∙ rw (← c.is_instruction.ensures, c.if-is_instruction.true)
 
 pub returns : goal.returns
-returns c =
-    let args = c.args in
-    reads-row args.step args.s args.word false c.is_instruction.ensures c.if-is_instruction.false c.latch_instruction-2.ensures
+returns c = λ regs. c.with_instruction-2.ensures regs ∙ rw (← c.is_instruction.ensures, c.if-is_instruction.false)

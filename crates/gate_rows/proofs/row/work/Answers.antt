@@ -1,9 +1,10 @@
 use mathlib.Core.Path.{refl, ◌∙◌}
+use native.Mathlib.Omega.{arith}
 use Rattle.gate_rows.proofs.Rows.{by, by-3, by-5, past-table}
 use Rattle.gate_rows.proofs.row.work.Goals as goal
 
 pub returns-in-0 : goal.returns-in-0
-returns-in-0 c = by 0 c.in-0.is (c.latch_address.ensures _) refl
+returns-in-0 c = by 0 c.in-0.is (c.with_address.ensures _) refl
 
 pub returns-in-1 : goal.returns-in-1
 returns-in-1 c =
@@ -19,7 +20,7 @@ returns-in-3 c = by-3 c.in-3.is c.operand_a.ensures c.prepare.ensures
 pub returns-in-4 : goal.returns-in-4
 returns-in-4 c =
     by 4 c.in-4.is
-    (c.latch_a.ensures _ ∙ rw c.load-in-4.ensures) refl
+    (c.with_a.ensures _ ∙ rw c.load-in-4.ensures) refl
 
 pub returns-in-5 : goal.returns-in-5
 returns-in-5 c = by-5 c.in-5.is c.operand_b.ensures c.prepare-in-5.ensures
@@ -27,7 +28,7 @@ returns-in-5 c = by-5 c.in-5.is c.operand_b.ensures c.prepare-in-5.ensures
 pub returns-in-6 : goal.returns-in-6
 returns-in-6 c =
     by 6 c.in-6.is
-    (c.latch_b.ensures _ ∙ rw c.load-in-6.ensures) refl
+    (c.with_b.ensures _ ∙ rw c.load-in-6.ensures) refl
 
 pub returns-in-7 : goal.returns-in-7
 returns-in-7 c = by 7 c.in-7.is (c.compute.ensures _) refl
@@ -56,4 +57,4 @@ pub returns-in-12 : goal.returns-in-12
 returns-in-12 c = by 12 c.in-12.is (c.moved-in-12.ensures _) refl
 
 pub returns-in_default : goal.returns-in_default
-returns-in_default c = past-table c.in_default.in_default-own.rest
+returns-in_default c = past-table (omega arith)
