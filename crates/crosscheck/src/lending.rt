@@ -5,11 +5,9 @@ use model::GateState;
 
 // One clock more on what the clocks before it left.
 fn one_more(memory: &mut [u32], bottom: u32, waits: &[u16], before: GateResult) -> GateResult {
-    let state = before.state;
+    let mut after = clock_once(memory, bottom, waits, before.state);
     let earlier = before.outcome.finished;
-    let mut after = clock_once(memory, bottom, waits, state);
-    let finished = std::num::wrapping_add_u64(earlier, after.outcome.finished);
-    after.outcome.finished = finished;
+    after.outcome.finished = earlier.wrapping_add(after.outcome.finished);
     after
 }
 
@@ -19,7 +17,7 @@ pub fn clock_by_clock(
     bottom: u32,
     waits: &[u16],
     start: GateState,
-    clocks: u64,
+    clocks: u32,
 ) -> GateResult {
     let mut result = GateResult {
         outcome: GateOutcome {
@@ -28,11 +26,8 @@ pub fn clock_by_clock(
         },
         state: start,
     };
-    let mut left = clocks;
-    while 0 < left {
-        let next = one_more(memory, bottom, waits, result);
-        result = next;
-        left -= 1;
+    for _ in 0..clocks {
+        result = one_more(memory, bottom, waits, result);
     }
     result
 }

@@ -16,22 +16,42 @@ mod print;
 mod state;
 mod unit;
 
+use input::CaseReader;
+use state::state_case;
+use std::io::{self, BufReader, BufWriter, Write};
+use unit::{sequence_case, unit_case};
+
 const MOST_CASES: u32 = 1_048_576;
 
-// Runs the next case. Whether there was one.
-fn next_case() -> bool {
-    match input::next_word() {
-        1 => state::state_case(),
-        2 => unit::unit_case(),
-        3 => unit::sequence_case(),
-        _ => return false,
-    }
-    true
+// What a case is about.
+enum Kind {
+    State,
+    Unit,
+    Sequence,
 }
 
-fn main() {
-    let mut left = MOST_CASES;
-    while 0 < left && next_case() {
-        left -= 1;
+impl Kind {
+    fn of(number: u32) -> Option<Kind> {
+        match number {
+            1 => Some(Kind::State),
+            2 => Some(Kind::Unit),
+            3 => Some(Kind::Sequence),
+            _ => None,
+        }
     }
+}
+
+fn main(rt: HostRuntime) -> io::Result<()> {
+    let alloc = rt.alloc();
+    let mut cases = CaseReader::new(BufReader::new(alloc, rt.reader())?);
+    let mut out = BufWriter::new(alloc, io::writer(&rt))?;
+    for _ in 0..MOST_CASES {
+        match Kind::of(cases.next_word()?) {
+            Some(Kind::State) => state_case(&mut cases, &mut out, alloc)?,
+            Some(Kind::Unit) => unit_case(&mut cases, &mut out)?,
+            Some(Kind::Sequence) => sequence_case(&mut cases, &mut out)?,
+            None => break,
+        }
+    }
+    out.flush()
 }

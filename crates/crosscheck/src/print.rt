@@ -1,38 +1,31 @@
-// The output's parts. Each item of a line has a space before it.
-use super::input::least;
+// How a line's parts are printed.
 use model::Flags;
-use text::{put_flag_digits, put_hexadecimal};
+use std::fmt;
 
-// The standard output.
-const STDOUT_FILENO: i32 = 1;
+// The words, each with a space before it.
+#[derive(Clone, Copy)]
+pub struct Words<'a>(pub &'a [u32]);
 
-pub fn print(text: &[u8]) {
-    io::write_all(STDOUT_FILENO, text);
-}
-
-pub fn print_number(number: u64) {
-    print(b" ");
-    io::print_decimal(STDOUT_FILENO, number);
-}
-
-pub fn print_word(word: u32) {
-    let mut item = [b' '; 9];
-    put_hexadecimal(&mut item, 1, word);
-    print(&item);
-}
-
-// The first words, as many of them as there are.
-pub fn print_words(words: &[u32], count: usize) {
-    let end = least(count, words.len());
-    let mut i = 0;
-    while i < end {
-        print_word(words[i]);
-        i += 1;
+impl fmt::Display for Words<'_> {
+    fn fmt<W: fmt::Write>(&self, f: &mut fmt::Formatter<W>) -> fmt::Result {
+        for word in self.0 {
+            write!(f, " {word:08X}")?;
+        }
+        Ok(())
     }
 }
 
-pub fn print_flags(flags: Flags) {
-    let mut item = [b' '; 5];
-    put_flag_digits(&mut item, 1, flags);
-    print(&item);
+// The flags as four digits: cvnz.
+#[derive(Clone, Copy)]
+pub struct FlagDigits(pub Flags);
+
+impl fmt::Display for FlagDigits {
+    fn fmt<W: fmt::Write>(&self, f: &mut fmt::Formatter<W>) -> fmt::Result {
+        let flags = self.0;
+        write!(
+            f,
+            "{}{}{}{}",
+            flags.carry as u8, flags.overflow as u8, flags.negative as u8, flags.zero as u8
+        )
+    }
 }

@@ -1,83 +1,84 @@
 // A gate state: what a number of clocks makes of it, one at a time.
-use super::input::{
-    front_waits, front_words, half, next_list, next_number, next_registers, next_word,
-};
+use super::input::{CaseReader, low_half};
 use super::lending::clock_by_clock;
-use super::print::{print, print_flags, print_number, print_words};
-use gate_machine::{GateAnswer, GateResult};
+use super::print::{FlagDigits, Words};
+use gate_machine::GateAnswer;
 use model::GateState;
 use packed_flags::unpacked;
 use refusals::refusal_number;
+use std::alloc::Global;
+use std::fmt;
+use std::io::{self, Read, Write};
 
-const MOST_CLOCKS: usize = 400;
+const MOST_CLOCKS: u32 = 400;
 
-fn next_state() -> GateState {
-    GateState {
-        regs: next_registers(),
-        flags: unpacked(next_word()),
-        row: (next_word() % 256) as u8,
-        instruction: next_word(),
-        address: next_word(),
-        a: next_word(),
-        b: next_word(),
-        result: next_word(),
-        position: next_word(),
-        begun: next_word() != 0,
-        left: half(next_word()),
-    }
+fn next_state<R: Read + Drop>(cases: &mut CaseReader<R>) -> io::Result<GateState> {
+    Ok(GateState {
+        regs: cases.next_registers()?,
+        flags: unpacked(cases.next_word()?),
+        row: (cases.next_word()? & 0xff) as u8,
+        instruction: cases.next_word()?,
+        address: cases.next_word()?,
+        a: cases.next_word()?,
+        b: cases.next_word()?,
+        result: cases.next_word()?,
+        position: cases.next_word()?,
+        begun: cases.next_flag()?,
+        left: low_half(cases.next_word()?),
+    })
 }
 
-fn print_answer(answer: GateAnswer) {
-    match answer {
-        GateAnswer::Ran => print(b" ran"),
-        GateAnswer::Refused(why) => {
-            print(b" refused");
-            print_number(refusal_number(why) as u64);
+#[derive(Clone, Copy)]
+struct Answer(GateAnswer);
+
+impl fmt::Display for Answer {
+    fn fmt<W: fmt::Write>(&self, f: &mut fmt::Formatter<W>) -> fmt::Result {
+        match self.0 {
+            GateAnswer::Ran => write!(f, "ran"),
+            GateAnswer::Refused(why) => write!(f, "refused {}", refusal_number(why)),
         }
     }
 }
 
 // cvnz r0..r7 row instruction address a b result position begun left
-fn print_state(s: GateState) {
-    let regs = s.regs;
-    let flags = s.flags;
-    print_flags(flags);
-    print_words(&regs, 8);
-    print_number(s.row as u64);
-    print_words(&[s.instruction, s.address, s.a, s.b, s.result], 5);
-    print_number(s.position as u64);
-    print_number(s.begun as u64);
-    print_number(s.left as u64);
-}
+#[derive(Clone, Copy)]
+struct State(GateState);
 
-// ANSWER finished, the state
-fn print_result(res: GateResult) {
-    let outcome = res.outcome;
-    let answer = outcome.answer;
-    let state = res.state;
-    print_answer(answer);
-    print_number(outcome.finished);
-    print_state(state);
+impl fmt::Display for State {
+    fn fmt<W: fmt::Write>(&self, f: &mut fmt::Formatter<W>) -> fmt::Result {
+        let s = self.0;
+        write!(f, "{}{} {}", FlagDigits(s.flags), Words(&s.regs), s.row)?;
+        let latches = [s.instruction, s.address, s.a, s.b, s.result];
+        write!(
+            f,
+            "{} {} {} {}",
+            Words(&latches),
+            s.position,
+            s.begun as u8,
+            s.left
+        )
+    }
 }
 
 // lent ANSWER finished, the state, m0..
-pub fn state_case() {
-    let memory = next_list();
-    let bottom = next_word();
-    let waits = next_list();
-    let start = next_state();
-    let clocks = next_number(MOST_CLOCKS) as u64;
-    let mut words = memory.words;
-    let entries = waits.waits;
-    let result = clock_by_clock(
-        front_words(&mut words, memory.count),
-        bottom,
-        front_waits(&entries, waits.count),
-        start,
-        clocks,
-    );
-    print(b"lent");
-    print_result(result);
-    print_words(&words, memory.count);
-    print(b"\n");
+pub fn state_case<R: Read + Drop, W: Write>(
+    cases: &mut CaseReader<R>,
+    out: &mut W,
+    alloc: Global,
+) -> io::Result<()> {
+    let mut memory = cases.next_list(alloc)?;
+    let bottom = cases.next_word()?;
+    let waits = cases.next_waits(alloc)?;
+    let start = next_state(cases)?;
+    let clocks = cases.next_number(MOST_CLOCKS)?;
+    let end = clock_by_clock(&mut memory, bottom, &waits, start, clocks);
+    let outcome = end.outcome;
+    writeln!(
+        out,
+        "lent {} {} {}{}",
+        Answer(outcome.answer),
+        outcome.finished,
+        State(end.state),
+        Words(&memory)
+    )
 }

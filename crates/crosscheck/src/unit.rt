@@ -1,48 +1,50 @@
 // The arithmetic unit of gates around each of its adders.
-use super::input::{next_number, next_word};
-use super::print::{print, print_flags, print_word};
+use super::input::CaseReader;
+use super::print::FlagDigits;
 use arithmetic::AluOut;
 use gates::{Adder, unit_around};
 use model::Flags;
+use std::fmt;
+use std::io::{self, Read, Write};
 
-const MOST_OPERATIONS: usize = 16_777_216;
+const MOST_OPERATIONS: u32 = 16_777_216;
 
 // Odd, so that all words come.
 const STRIDE: u32 = 2_654_435_769;
 
-fn print_out(out: AluOut) {
-    print_word(out.result);
-    print_flags(Flags {
-        carry: out.carry,
-        overflow: out.overflow,
-        negative: out.negative,
-        zero: out.zero,
-    });
-}
+// RESULT cvnz
+#[derive(Clone, Copy)]
+struct Output(AluOut);
 
-// unit RESULT cvnz RESULT cvnz
-pub fn unit_case() {
-    let operation = (next_word() % 256) as u8;
-    let a = next_word();
-    let b = next_word();
-    let carry = next_word() != 0;
-    print(b"unit");
-    print_out(unit_around(Adder::Ripple, operation, a, b, carry));
-    print_out(unit_around(Adder::Halves, operation, a, b, carry));
-    print(b"\n");
-}
-
-// 0 is the ripple adder, any other number the adder by halves.
-fn adder_of(number: u32) -> Adder {
-    if number == 0 {
-        Adder::Ripple
-    } else {
-        Adder::Halves
+impl fmt::Display for Output {
+    fn fmt<W: fmt::Write>(&self, f: &mut fmt::Formatter<W>) -> fmt::Result {
+        let out = self.0;
+        let flags = Flags {
+            carry: out.carry,
+            overflow: out.overflow,
+            negative: out.negative,
+            zero: out.zero,
+        };
+        write!(f, "{:08X} {}", out.result, FlagDigits(flags))
     }
 }
 
+// unit RESULT cvnz RESULT cvnz
+pub fn unit_case<R: Read + Drop, W: Write>(
+    cases: &mut CaseReader<R>,
+    out: &mut W,
+) -> io::Result<()> {
+    let operation = (cases.next_word()? & 0xff) as u8;
+    let a = cases.next_word()?;
+    let b = cases.next_word()?;
+    let carry = cases.next_flag()?;
+    let ripple = unit_around(Adder::Ripple, operation, a, b, carry);
+    let halves = unit_around(Adder::Halves, operation, a, b, carry);
+    writeln!(out, "unit {} {}", Output(ripple), Output(halves))
+}
+
 // The sixteen operations over and over, each on a new word, the last result and the last carry.
-fn operate(adder: u32, count: usize) -> AluOut {
+fn operate(adder: Adder, count: u32) -> AluOut {
     let mut out = AluOut {
         result: 0,
         carry: false,
@@ -50,21 +52,24 @@ fn operate(adder: u32, count: usize) -> AluOut {
         negative: false,
         zero: false,
     };
-    let mut word: u32 = 0;
-    let mut i = 0;
-    while i < count {
-        word = std::num::wrapping_add_u32(word, STRIDE);
-        out = unit_around(adder_of(adder), (i % 16) as u8, word, out.result, out.carry);
-        i += 1;
+    let mut word = 0u32;
+    for i in 0..count {
+        word = word.wrapping_add(STRIDE);
+        out = unit_around(adder, (i % 16) as u8, word, out.result, out.carry);
     }
     out
 }
 
-// ran RESULT cvnz
-pub fn sequence_case() {
-    let adder = next_word();
-    let count = next_number(MOST_OPERATIONS);
-    print(b"ran");
-    print_out(operate(adder, count));
-    print(b"\n");
+// ran RESULT cvnz. The adder is 0 for the ripple adder, any other number for the adder by halves.
+pub fn sequence_case<R: Read + Drop, W: Write>(
+    cases: &mut CaseReader<R>,
+    out: &mut W,
+) -> io::Result<()> {
+    let adder = cases.next_word()?;
+    let count = cases.next_number(MOST_OPERATIONS)?;
+    let last = match adder {
+        0 => operate(Adder::Ripple, count),
+        _ => operate(Adder::Halves, count),
+    };
+    writeln!(out, "ran {}", Output(last))
 }
