@@ -2,8 +2,7 @@
 use super::input::{CaseReader, low_half};
 use super::lending::clock_by_clock;
 use super::print::{FlagDigits, Words};
-use gate_machine::GateAnswer;
-use model::GateState;
+use model::{GateState, Refusal};
 use packed_flags::unpacked;
 use refusals::refusal_number;
 use std::alloc::Global;
@@ -28,14 +27,15 @@ fn next_state<R: Read + Drop>(cases: &mut CaseReader<R>) -> io::Result<GateState
     })
 }
 
+// ran FINISHED, or refused NUMBER and none finished.
 #[derive(Clone, Copy)]
-struct Answer(GateAnswer);
+struct Outcome(Result<u64, Refusal>);
 
-impl fmt::Display for Answer {
+impl fmt::Display for Outcome {
     fn fmt<W: fmt::Write>(&self, f: &mut fmt::Formatter<W>) -> fmt::Result {
         match self.0 {
-            GateAnswer::Ran => write!(f, "ran"),
-            GateAnswer::Refused(why) => write!(f, "refused {}", refusal_number(why)),
+            Ok(finished) => write!(f, "ran {finished}"),
+            Err(why) => write!(f, "refused {} 0", refusal_number(why)),
         }
     }
 }
@@ -72,12 +72,10 @@ pub fn state_case<R: Read + Drop, W: Write>(
     let start = next_state(cases)?;
     let clocks = cases.next_number(MOST_CLOCKS)?;
     let end = clock_by_clock(&mut memory, bottom, &waits, start, clocks);
-    let outcome = end.outcome;
     writeln!(
         out,
-        "lent {} {} {}{}",
-        Answer(outcome.answer),
-        outcome.finished,
+        "lent {} {}{}",
+        Outcome(end.outcome),
         State(end.state),
         Words(&memory)
     )
