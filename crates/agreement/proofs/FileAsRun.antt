@@ -28,7 +28,7 @@ use Rattle.interpreter.proofs.FileAnswers.{file-returned, file-left}
 use Rattle.agreement.specs.FileAsRun.{is_full, AsRun, FileAsRun, FullAsRun}
 
 -- the answer tells whether the journal is full
-told : (f : Bool) (e : Ending) → is_full (file_answer_of f e) ≡ f
+told : (f : Bool) (e : Ending) → is_full (Ok (file_answer_of f e)) ≡ f
 told true e = refl
 told false Finished = refl
 told false Outside = refl
