@@ -2,7 +2,7 @@
 use super::input::{next_number, next_word};
 use super::print::{print, print_flags, print_word};
 use arithmetic::AluOut;
-use gates::{Adder, unit_around};
+use gates::{Adder, Halves, Ripple, unit_around};
 use model::Flags;
 
 const MOST_OPERATIONS: usize = 16_777_216;
@@ -27,22 +27,13 @@ pub fn unit_case() {
     let b = next_word();
     let carry = next_word() != 0;
     print(b"unit");
-    print_out(unit_around(Adder::Ripple, operation, a, b, carry));
-    print_out(unit_around(Adder::Halves, operation, a, b, carry));
+    print_out(unit_around(Ripple, operation, a, b, carry));
+    print_out(unit_around(Halves, operation, a, b, carry));
     print(b"\n");
 }
 
-// 0 is the ripple adder, any other number the adder by halves.
-fn adder_of(number: u32) -> Adder {
-    if number == 0 {
-        Adder::Ripple
-    } else {
-        Adder::Halves
-    }
-}
-
 // The sixteen operations over and over, each on a new word, the last result and the last carry.
-fn operate(adder: u32, count: usize) -> AluOut {
+fn operate<A: Adder + Copy>(adder: A, count: usize) -> AluOut {
     let mut out = AluOut {
         result: 0,
         carry: false,
@@ -51,20 +42,22 @@ fn operate(adder: u32, count: usize) -> AluOut {
         zero: false,
     };
     let mut word: u32 = 0;
-    let mut i = 0;
-    while i < count {
-        word = std::num::wrapping_add_u32(word, STRIDE);
-        out = unit_around(adder_of(adder), (i % 16) as u8, word, out.result, out.carry);
-        i += 1;
+    for i in 0..count {
+        word = word.wrapping_add(STRIDE);
+        out = unit_around(adder, (i % 16) as u8, word, out.result, out.carry);
     }
     out
 }
 
-// ran RESULT cvnz
+// ran RESULT cvnz. 0 is the ripple adder, any other number the adder by halves.
 pub fn sequence_case() {
     let adder = next_word();
     let count = next_number(MOST_OPERATIONS);
     print(b"ran");
-    print_out(operate(adder, count));
+    print_out(if adder == 0 {
+        operate(Ripple, count)
+    } else {
+        operate(Halves, count)
+    });
     print(b"\n");
 }
