@@ -2,7 +2,7 @@
 use super::input::CaseReader;
 use super::print::FlagDigits;
 use arithmetic::AluOut;
-use gates::{Adder, unit_around};
+use gates::{Adder, Halves, Ripple, unit_around};
 use model::Flags;
 use std::fmt;
 use std::io::{self, Read, Write};
@@ -38,13 +38,13 @@ pub fn unit_case<R: Read + Drop, W: Write>(
     let a = cases.next_word()?;
     let b = cases.next_word()?;
     let carry = cases.next_flag()?;
-    let ripple = unit_around(Adder::Ripple, operation, a, b, carry);
-    let halves = unit_around(Adder::Halves, operation, a, b, carry);
+    let ripple = unit_around(Ripple, operation, a, b, carry);
+    let halves = unit_around(Halves, operation, a, b, carry);
     writeln!(out, "unit {} {}", Output(ripple), Output(halves))
 }
 
 // The sixteen operations over and over, each on a new word, the last result and the last carry.
-fn operate(adder: Adder, count: u32) -> AluOut {
+fn operate<A: Adder + Copy>(adder: A, count: u32) -> AluOut {
     let mut out = AluOut {
         result: 0,
         carry: false,
@@ -68,8 +68,8 @@ pub fn sequence_case<R: Read + Drop, W: Write>(
     let adder = cases.next_word()?;
     let count = cases.next_number(MOST_OPERATIONS)?;
     let last = match adder {
-        0 => operate(Adder::Ripple, count),
-        _ => operate(Adder::Halves, count),
+        0 => operate(Ripple, count),
+        _ => operate(Halves, count),
     };
     writeln!(out, "ran {}", Output(last))
 }

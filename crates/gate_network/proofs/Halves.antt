@@ -110,4 +110,4 @@ halves_as_ripple n p q f lp lq =
 pub halves_add : HalvesAdd
 halves_add n p q f lp lq =
     let h = halves_as_ripple n p q f lp lq in
-    adds-alike (ripple_adds (2 ^ n) p q f lp lq) (h.carry, h.sum)
+    adds-alike (ripple_adds (2 ^ n) p q f lp lq) h.carry h.sum

@@ -3,11 +3,11 @@ use Prim.Native.Nat.{ℕ, suc, ◌+◌, ◌-◌, ◌*◌, ◌/◌, ◌%◌, ◌^
 use mathlib.Core.Path.{◌≡◌, refl, sym, ap, subst, ◌∙◌}
 use mathlib.Core.Bool.{Bool, true, false, not, ◌&&◌, ◌||◌, xor, or-false}
 use mathlib.Core.List.{List}
+use native.Mathlib.Nat.{div-one}
 use native.Mathlib.Omega.{arith}
-use lib.Dec.{eqb}
 use lib.ListN.{length, get_or}
 use Rattle.arithmetic.specs.declared.AluOut.{AluOut}
-use Rattle.arithmetic.specs.Words.{as_number, overflow_of}
+use Rattle.arithmetic.specs.Words.{as_number, nibble, overflow_of}
 use Rattle.arithmetic.specs.Alu.{plain_of, sum_of, difference_of, halved_of, answers, alu_at, alu_of}
 use Rattle.arithmetic.proofs.Bits.{xor_false, xor_true, low-nibble}
 use Rattle.arithmetic.proofs.Integers.{weight}
@@ -16,7 +16,7 @@ use Rattle.gate_network.specs.declared.Lines.{Lines}
 use Rattle.gate_network.specs.Gates.{value, bits_of, ripple_sum, ripple_carry, lines_of, first_row, second_row, carry_out, any_of}
 use Rattle.gate_network.specs.Halves.{halves_sum, halves_carry}
 use Rattle.gate_network.specs.Theorems.{Adds, AddsAt, out_of, UnitAtEveryWidth, UnitAround, RippleUnit, HalvesUnit}
-use Rattle.gate_network.proofs.Worth.{ripple_adds, value-below, value-top, value_low, value_none, length-bits, value-bits}
+use Rattle.gate_network.proofs.Worth.{ripple_adds, value-below, value-top, value_low, value_none, length-bits, bit_at, value-bits}
 use Rattle.gate_network.proofs.RowWorth.{pick_first, pick_second, first-length, table-value, none-digits, a-digits, b-digits, and_digits, or_digits, xor_digits, not-value}
 use Rattle.gate_network.proofs.RowWorth.{shift_value, second-length, second-value, second-turned}
 use Rattle.gate_network.proofs.Halves.{halves_add}
@@ -128,17 +128,24 @@ halves_unit n k e = around k (halves_sum n 0) (halves_carry n 0) (λ p q f lp lq
 
 -- ---- words in, a word out
 
--- the control lines by the operation's number
-abbrev steered : ℕ → Bool → Bool → Lines
-steered n c sign = lines_of (eqb (n % 2) 1) (eqb (n / 2 % 2) 1) (eqb (n / 4 % 2) 1) (eqb (n / 8 % 2) 1) c sign
+-- a bit of a word of 32
+abbrev bit_of : ℕ → ℕ → Bool
+bit_of x i = get_or (bits_of 32 x) i false
+
+-- the control lines by the operation's number and the word a
+abbrev steered : (n a : ℕ) → Bool → Lines
+steered n a c = lines_of (bit_of n 0) (bit_of n 1) (bit_of n 2) (bit_of n 3) c (bit_of a 31)
+
+-- the operation is the number's lowest four bits
+operation : (n : ℕ) → nibble (bit_of n 3) (bit_of n 2) (bit_of n 1) (bit_of n 0) ≡ n % 16
+operation n =
+    rw (bit_at 32 n 3 false (omega arith), bit_at 32 n 2 false (omega arith), bit_at 32 n 1 false (omega arith), bit_at 32 n 0 false (omega arith), div-one n)
+    (low-nibble n)
 
 -- the values on the wires, each as the function that makes it ensures
-pub gate-by : (n a b : ℕ) (c : Bool) {r : ℕ} {sign low d : Bool} {l : Lines} {p q s : List Bool} → a < 2 ^ 32 → b < 2 ^ 32
-    → sign ≡ get_or (bits_of 32 a) 31 false → l ≡ steered n c sign
-    → (p ≡ first_row l (bits_of 32 a) (bits_of 32 b)) × (q ≡ second_row l (bits_of 32 a))
-    → Adds p q l.carry s d
-    → r ≡ value s → low ≡ get_or (bits_of 32 a) 0 false
-    → {z : Bool} → z ≡ any_of s
+pub gate-by : (n a b : ℕ) (c : Bool) {r : ℕ} {low d z : Bool} {l : Lines} {p q s : List Bool} → a < 2 ^ 32 → b < 2 ^ 32 → l ≡ steered n a c
+    → p ≡ first_row l (bits_of 32 a) (bits_of 32 b) → q ≡ second_row l (bits_of 32 a) → Adds p q l.carry s d
+    → r ≡ value s → low ≡ bit_of a 0 → z ≡ any_of s
     → ◌≡◌ {A = AluOut}
     (record {
       result = r;
@@ -149,7 +156,7 @@ pub gate-by : (n a b : ℕ) (c : Bool) {r : ℕ} {sign low d : Bool} {l : Lines}
     })
     (alu_of n a b c)
 unfolding alu_of
-gate-by n a b c {r} {sign} {low} {d} {l} {p} {q} {s} ha hb hsign hl (hp, hq) added hr hlow hz =
+gate-by n a b c {r} {low} {d} {z} {l} {p} {q} {s} ha hb hl hp hq added hr hlow hz =
     (λ i. record {
       result = hr i;
       carry = carry_out l (hlow i) d;
@@ -157,9 +164,9 @@ gate-by n a b c {r} {sign} {low} {d} {l} {p} {q} {s} ha hb hsign hl (hp, hq) add
       negative = get_or s 31 false;
       zero = not (hz i);
     })
-    ∙ (λ i. out_of 31 (el i) x y s d)
-    ∙ unit_at_every_width 31 x y s d c (length-bits 32 a) (length-bits 32 b) (eqb (n % 2) 1) (eqb (n / 2 % 2) 1) (eqb (n / 4 % 2) 1) (eqb (n / 8 % 2) 1) added_rows
-    ∙ (λ i. alu_at 31 (low-nibble n i) (value-bits 32 a ha i) (value-bits 32 b hb i) c)
+    ∙ (λ i. out_of 31 (hl i) x y s d)
+    ∙ unit_at_every_width 31 x y s d c (length-bits 32 a) (length-bits 32 b) (bit_of n 0) (bit_of n 1) (bit_of n 2) (bit_of n 3) added_rows
+    ∙ (λ i. alu_at 31 (operation n i) (value-bits 32 a ha i) (value-bits 32 b hb i) c)
   where
     x : List Bool
     x = bits_of 32 a
@@ -167,10 +174,7 @@ gate-by n a b c {r} {sign} {low} {d} {l} {p} {q} {s} ha hb hsign hl (hp, hq) add
     y : List Bool
     y = bits_of 32 b
 
-    el : l ≡ steered n c (get_or x 31 false)
-    el = hl ∙ ap (steered n c) hsign
-
-    added_rows : Adds (first_row (el 1) x y) (second_row (el 1) x) (el 1).carry s d
+    added_rows : Adds (first_row (hl 1) x y) (second_row (hl 1) x) (hl 1).carry s d
     added_rows =
-        subst (λ (m : Lines). Adds (first_row m x y) (second_row m x) m.carry s d) el
+        subst (λ (m : Lines). Adds (first_row m x y) (second_row m x) m.carry s d) hl
         (subst (λ (m : List Bool). Adds (first_row l x y) m l.carry s d) hq (subst (λ (m : List Bool). Adds m q l.carry s d) hp added))

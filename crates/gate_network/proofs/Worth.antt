@@ -1,14 +1,12 @@
 -- What rows of bits are worth, at every width: each law by one induction over the row.
-use Prim.Native.Nat.{ℕ, zero, suc, ◌+◌, ◌-◌, ◌*◌, ◌/◌, ◌%◌, ◌^◌, ◌≤◌, ◌<◌}
+use Prim.Native.Nat.{ℕ, zero, suc, ◌+◌, ◌*◌, ◌/◌, ◌%◌, ◌^◌, ◌<◌}
 use mathlib.Core.Path.{◌≡◌, refl, sym, ap, subst, ◌∙◌}
 use mathlib.Core.Bool.{Bool, true, false, not, xor}
 use mathlib.Core.List.{List, [], ◌∷◌, ◌++◌}
-use native.Mathlib.Nat.{suc_inj, pow-suc, pow-succ', mul_comm, mul_assoc, le_trans, sub-le, lt_of_lt_of_le, le_of_suc-le-suc, div-one, div-div-eq-div-mul}
+use native.Mathlib.Nat.{suc_inj, pow-suc, pow-succ', mul_comm, mul_assoc, le_of_suc-le-suc, div-one, div-div-eq-div-mul}
 use native.Mathlib.Omega.{arith}
 use lib.Dec.{eqb}
-use lib.ListN.{length, drop, get_or, length-drop}
-use lib.Seq.{drop-cons}
-use lib.Pow.{pow_mono}
+use lib.ListN.{length, get_or}
 use borrow.Author.Tests.{ne_eqb}
 use Rattle.arithmetic.specs.Words.{as_number, top_of}
 use Rattle.arithmetic.proofs.Bits.{three, bit_le, digit-bit, bit-digit, low_bit}
@@ -41,8 +39,8 @@ pub ripple_adds : RippleAdds
 ripple_adds w p q f lp lq = rows-add p q f (lq ∙ sym lp)
 
 -- what equals a sum and its carry out is one too
-pub adds-alike : {p q : List Bool} {f d d' : Bool} {s s' : List Bool} → Adds p q f s d → (d' ≡ d) × (s' ≡ s) → Adds p q f s' d'
-adds-alike h (ed, es) = rw (ed, es) h
+pub adds-alike : {p q : List Bool} {f d d' : Bool} {s s' : List Bool} → Adds p q f s d → d' ≡ d → s' ≡ s → Adds p q f s' d'
+adds-alike h ed es = rw (ed, es) h
 
 -- ---- bounds, the top bit, the lowest bit
 
@@ -105,21 +103,3 @@ pub value-snoc : (l : List Bool) (t : Bool) → value (l ++ (t ∷ [])) ≡ valu
 unfolding value
 value-snoc [] t = omega arith
 value-snoc (b ∷ l) t = omega (arith, value-snoc l t, double (as_number t) (length l))
-
--- ---- a row read from the top down
-
-pub row_drop : (l : List Bool) (i : ℕ) → 0 < i → i ≤ length l → drop (i - 1) l ≡ get_or l (i - 1) false ∷ drop i l
-row_drop l zero h g = absurd (let k : 0 < 0 = h in omega arith)
-row_drop l (suc i) h g = ap (λ (n : ℕ). drop n l) back ∙ drop-cons l i false g ∙ ap (λ (n : ℕ). get_or l n false ∷ drop (suc i) l) (sym back)
-  where
-    back : suc i - 1 ≡ i
-    back = omega arith
-
--- one more bit below those that were read; the whole stays within the width
-pub value-drop : (w : ℕ) (l : List Bool) (i : ℕ) → length l ≤ w → 0 < i → i ≤ length l
-    → (value (drop (i - 1) l) ≡ as_number (get_or l (i - 1) false) + 2 * value (drop i l)) × (value (drop (i - 1) l) < 2 ^ w)
-unfolding value
-value-drop w l i n h g = (
-  ap value (row_drop l i h g),
-  lt_of_lt_of_le (value-lt (drop (i - 1) l)) (pow_mono (subst (λ (m : ℕ). m ≤ w) (sym (length-drop (i - 1) l)) (le_trans (sub-le (length l) (i - 1)) n))),
-)

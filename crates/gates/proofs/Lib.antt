@@ -1,3 +1,4 @@
+mod Folds
 mod Turns
 mod Ranges
 pub mod Meaning

@@ -67,7 +67,5 @@ module _ (p q : List Bool) (at width : ℕ) where
 
 -- ---- the whole rows, of 32 bits
 
-pub halves_whole : (p q : List Bool) (f : Bool) (out : List Bool) {d : Bool} {r : RangeCarry} {s : List Bool} → length out ≡ 32
-    → RangeSums p q 0 32 f out s → RangeCarries p q 0 32 r → d ≡ carry_past r f → (d ≡ halves_carry 5 0 p q f) × (s ≡ halves_sum 5 0 p q f)
-halves_whole p q f out e h l g =
-    (g ∙ ap (λ (t : RangeCarry). carry_past t f) (l 5 refl), h 5 refl ∙ all_set out (halves_sum 5 0 p q f) (e ∙ sym (halves_length 5 0 p q f)))
+pub halves_whole : (p q : List Bool) (f : Bool) (out : List Bool) {s : List Bool} → length out ≡ 32 → RangeSums p q 0 32 f out s → s ≡ halves_sum 5 0 p q f
+halves_whole p q f out e h = h 5 refl ∙ all_set out (halves_sum 5 0 p q f) (e ∙ sym (halves_length 5 0 p q f))

@@ -1,5 +1,5 @@
 // Words and single bits; rows of bits read from the top down.
-ghost use Rattle.std.specs.Prelude.{◌≡◌, false, ◌+◌, ◌≤◌, ◌<◌, length, get_or};
+ghost use Rattle.std.specs.Prelude.{◌≡◌, false, ◌+◌, ◌<◌, get_or};
 ghost use Rattle.gate_network.specs.Gates.{value, bits_of, any_of};
 
 // The bit of a word at a place, the lowest at 0.
@@ -26,25 +26,12 @@ pub fn above(word: u32, place: usize, top: bool) -> bool
 pub fn any(bits: &[bool]) -> bool
     ensures { result ≡ any_of bits.now }
 {
-    let mut r = false;
-    let mut i = bits.len();
-    while 0 < i {
-        i -= 1;
-        r = bits[i] | r;
-    }
-    r
+    bits.iter().fold(false, |r, bit| r | *bit)
 }
 
-// The word of a row of at most 32 bits.
-pub fn from_bits(bits: &[bool]) -> u32
-    requires { length bits.now ≤ 32 }
+// The word of a row of 32 bits.
+pub fn from_bits(bits: &[bool; 32]) -> u32
     ensures { result ≡ value bits.now }
 {
-    let mut r: u32 = 0;
-    let mut i = bits.len();
-    while 0 < i {
-        i -= 1;
-        r = 2 * r + (bits[i] as u32);
-    }
-    r
+    bits.iter().rfold(0u32, |r, bit| (r << 1) | u32::from(*bit))
 }

@@ -1,5 +1,5 @@
 // The two rows that the adder is given: selectors let one adder serve every operation.
-ghost use Rattle.std.specs.Prelude.{◌≡◌, length};
+ghost use Rattle.std.specs.Prelude.{◌≡◌};
 ghost use Rattle.gate_network.specs.Gates.{bits_of, first_bit, first_row, second_row};
 
 use super::bits::{above, bit};
@@ -15,16 +15,14 @@ fn first_bit(l: Lines, a: bool, b: bool, up: bool) -> bool
 }
 
 // Both rows, from the bits of two words.
-pub fn adder_rows(l: Lines, a: u32, b: u32, first: &mut [bool], second: &mut [bool])
-    requires { (length first.old ≡ 32) × (length second.old ≡ 32) }
-    ensures { (first.new ≡ first_row l (bits_of 32 a) (bits_of 32 b)) × (second.new ≡ second_row l (bits_of 32 a)) }
+pub fn adder_rows(l: Lines, a: u32, b: u32, first: &mut [bool; 32], second: &mut [bool; 32])
+    ensures first { first.new ≡ first_row l (bits_of 32 a) (bits_of 32 b) }
+    ensures second { second.new ≡ second_row l (bits_of 32 a) }
 {
-    let mut i = 0;
-    while i < 32 {
+    for i in 0..32 {
         let x = bit(a, i);
         first[i] = first_bit(l, x, bit(b, i), above(a, i, l.top));
         // The bit of a or nothing, complemented for a difference.
         second[i] = (x & l.second) ^ l.turn;
-        i += 1;
     }
 }

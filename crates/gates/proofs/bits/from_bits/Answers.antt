@@ -1,37 +1,16 @@
-use Prim.Native.Nat.{ℕ}
-use mathlib.Core.Path.{◌≡◌, sym, ap, ◌∙◌}
-use native.Mathlib.Omega.{arith}
-use lib.ListN.{drop}
-use lib.Seq.{drop-length}
-use Rattle.gate_network.specs.Gates.{value}
-use Rattle.gate_network.proofs.Worth.{value-drop}
+use Rattle.std.proofs.Common.{rules, ap, sym, ◌∙◌, reverse, arith}
+use Rattle.std.specs.List.{fold}
+use Rattle.std.specs.Slice.Iter.{iter_rest}
+use Rattle.std.proofs.lemmas.List.Folds.{fold-map}
+use Rattle.gates.proofs.Folds.{put_in, fold-value}
 use Rattle.gates.proofs.bits.from_bits.Goals as goal
-
-pub loop-i-init : goal.loop-i-init
-unfolding value
-loop-i-init c = (omega arith, sym (ap value (drop-length c.args.bits.now)))
-
-pub overflow_sub-i : goal.overflow_sub-i
-overflow_sub-i c = omega arith
-
-pub overflow_mul-r : goal.overflow_mul-r
-overflow_mul-r c = omega (arith, value-drop 32 c.args.bits.now c.loop-i.i (omega arith) (omega arith) (omega arith))
-
-pub bounds-bits-i : goal.bounds-bits-i
-bounds-bits-i c = omega arith
-
-pub overflow_add-r : goal.overflow_add-r
-overflow_add-r c = omega (arith, value-drop 32 c.args.bits.now c.loop-i.i (omega arith) (omega arith) (omega arith))
-
-pub loop-i-smaller : goal.loop-i-smaller
-loop-i-smaller c = omega arith
-
-pub loop-i-preserved : goal.loop-i-preserved
-loop-i-preserved c =
-    let more = value-drop 32 c.args.bits.now c.loop-i.i (omega arith) (omega arith) (omega arith) in
-    (omega arith, omega (arith, more))
 
 pub returns : goal.returns
 returns c =
-    let e : c.loop-i.i ≡ 0 = omega arith in
-    c.loop-i.invariant.1 ∙ ap (λ (n : ℕ). value (drop n c.args.bits.now)) e
+    let run = c.rfold.ensures.runs in
+    let p = run.0 in
+    let items = (c.iter.ensures.runs_back p p.seen).4 run.2 ∙ ap (λ s. reverse (iter_rest s)) run.1 ∙ ap reverse c.iter.ensures.rest in
+    run.3 (λ r x. put_in r x.now) (λ r x s f k. search rules)
+    ∙ sym (fold-map put_in (λ x. x.now) 0 p.items)
+    ∙ ap (fold put_in 0) items
+    ∙ fold-value c.args.bits.now (omega arith)

@@ -1,0 +1,8 @@
+// What the unit asks of an adder: that it adds. Each adder is a type without values, so that the compiler makes a unit of its own around each.
+ghost use Rattle.gate_network.specs.Theorems.{Adds};
+
+pub trait Adder {
+    // The sum of two rows of 32 bits and a carry, lowest bit first. Returns the carry out.
+    fn add(self, a: &[bool; 32], b: &[bool; 32], carry: bool, out: &mut [bool; 32]) -> bool
+        ensures { Adds a.now b.now carry out.new result };
+}
