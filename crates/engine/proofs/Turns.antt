@@ -6,7 +6,6 @@ use mathlib.Core.List.{List, [], ◌∷◌}
 use native.Mathlib.Nat.{add_assoc}
 use native.Mathlib.Numerals.{add-one}
 use native.Mathlib.Omega.{arith}
-use lib.ListN.{length}
 use lib.Seq.{set-set, set-get_or}
 use Rattle.model.specs.declared.Machine.{Machine}
 use Rattle.model.specs.declared.Ending.TheVariants.{Finished}
@@ -110,10 +109,6 @@ module _ (memory₀ : List ℕ) (board : Board) (from : ℕ) (journal₀ map₀ 
     pub state : keep_run board i first ≡ kept_at (run_at (packed_machine regs flags) memory position i clocks) journal map pairs
     pub ran : I.interpret board i (I.begin start memory₀ from) ≡ run_at (packed_machine regs flags) memory position i clocks
     pub fits : position_fits board.waits position ≡ true
-    pub below : i ≤ count
-    pub words : length memory ≡ length memory₀
-    pub places : length journal ≡ length journal₀
-    pub marks : length map ≡ length map₀
 
 module _ {memory₀ : List ℕ} {board : Board} {from : ℕ} {journal₀ map₀ : List ℕ} {pairs₀ : ℕ} {start : Machine} {count : ℕ} {memory journal map regs : List ℕ} {flags position clocks pairs i : ℕ}
     (a : At memory₀ board from journal₀ map₀ pairs₀ start count memory journal map regs flags position clocks pairs i) where
@@ -219,19 +214,14 @@ module _ {memory₀ : List ℕ} {board : Board} {from : ℕ} {journal₀ map₀ 
 
       pub turn : I.goes_on s.ending ≡ true → s.full ≡ false
           → {w : Spent} → w ≡ spent_of board.waits (record { clocks = clocks; position = position }) s.oa s.ob s.stored
-          → length memory' ≡ length memory → length journal' ≡ length journal → length map' ≡ length map
           → At memory₀ board from journal₀ map₀ pairs₀ start count memory' journal' map' regs' s.flags w.position w.clocks pairs' (i + 1)
-      turn e f {w} d lm lj lp =
+      turn e f {w} d =
           let q = advances board h position i clocks e f d in
           let (kept, same) = (goes e (run_at (packed_machine regs' s.flags) (words board h) w.position (i + 1) w.clocks) q).onward f in
           record {
             state = kept ∙ rw same;
             ran = ran_on ∙ q ∙ rw same;
             fits = rw d (after-fits board.waits _ position a.fits);
-            below = omega arith;
-            words = lm ∙ a.words;
-            places = lj ∙ a.places;
-            marks = lp ∙ a.marks;
           }
 
       pub full : I.goes_on s.ending ≡ true → s.full ≡ true
@@ -242,11 +232,10 @@ module _ {memory₀ : List ℕ} {board : Board} {from : ℕ} {journal₀ map₀ 
           (kept_on board first' (filled here journal map pairs) (omega arith) kept (full-kept board (filled here journal map pairs) refl))
           (q ∙ rw (is, counted)) same places marks
 
-  pub finished : count ≤ i → {e : Ended} → e ≡ ended_at false Finished (packed_machine regs flags) position i clocks pairs
+  pub finished : count ≡ i → {e : Ended} → e ≡ ended_at false Finished (packed_machine regs flags) position count clocks pairs
       → EngineEnds memory₀ board from journal₀ map₀ pairs₀ start count memory journal map e
-  finished h g =
-      let n : count ≡ i = omega (arith, a.below) in
-      ends (kept_at here journal map pairs) (ap (λ (m : ℕ). keep_run board m first') n ∙ a.state) g refl refl refl
+  finished n g =
+      ends (kept_at here journal map pairs) (ap (λ (m : ℕ). keep_run board m first') n ∙ a.state) (g ∙ rw n) refl refl refl
 
 -- ---- from the packed flags of a start
 
@@ -254,7 +243,7 @@ pub begins : {memory : List ℕ} {board : Board} {from : ℕ} {journal map : Lis
     → At memory board from journal map pairs (packed_machine regs flags) count memory journal map regs flags from 0 pairs 0
 unfolding I.interpret keep_run
 begins fits =
-    record { state = refl; ran = refl; fits = fits; below = omega arith; words = refl; places = refl; marks = refl }
+    record { state = refl; ran = refl; fits = fits }
 
 pub same_start : {start : Machine} {flags : ℕ} → flags ≡ packed_of start.flags → packed_machine start.regs flags ≡ start
 same_start {start} packs = rw (packs, unpacks start.flags)

@@ -28,15 +28,19 @@ pub fn begins_at(waits: &[u16], from: u32) -> usize
 
 // 8 clocks, and one each for A in memory, B in memory and a store.
 fn cost(a: bool, b: bool, stored: bool) -> u64
-    ensures { (result ≡ cost_of a b stored) × (result ≤ 11) }
+    ensures value { result ≡ cost_of a b stored }
+    ensures few { result ≤ 11 }
 {
     8 + (a as u64) + (b as u64) + (stored as u64)
 }
 
 // The wait of one access more, at an entry of the list.
 fn more(waits: &[u16], w: Spent) -> Spent
-    requires { (w.clocks < 2 ^ 62) × (w.position < length waits.now) }
-    ensures { (result ≡ more_of waits.now w) × (result.clocks < w.clocks + 65_536) × (result.position < length waits.now) }
+    requires few { w.clocks < 2 ^ 62 }
+    requires within { w.position < length waits.now }
+    ensures value { result ≡ more_of waits.now w }
+    ensures few { result.clocks < w.clocks + 65_536 }
+    ensures within { result.position < length waits.now }
 {
     let position = w.position;
     Spent {
@@ -46,8 +50,11 @@ fn more(waits: &[u16], w: Spent) -> Spent
 }
 
 fn more_if(waits: &[u16], w: Spent, b: bool) -> Spent
-    requires { (w.clocks < 2 ^ 62) × (w.position < length waits.now) }
-    ensures { (result ≡ cond b (more_of waits.now w) w) × (result.clocks < w.clocks + 65_536) × (result.position < length waits.now) }
+    requires few { w.clocks < 2 ^ 62 }
+    requires within { w.position < length waits.now }
+    ensures value { result ≡ cond b (more_of waits.now w) w }
+    ensures few { result.clocks < w.clocks + 65_536 }
+    ensures within { result.position < length waits.now }
 {
     if b {
         return more(waits, w);
@@ -57,7 +64,8 @@ fn more_if(waits: &[u16], w: Spent, b: bool) -> Spent
 
 // One instruction more: its cost, and the waits for its fetch, A, B and store to memory.
 pub fn clocked(waits: &[u16], w: Spent, oa: Operand, ob: Operand, stored: bool) -> Spent
-    requires { (w.clocks < 2 ^ 61) × (position_fits waits.now w.position ≡ true) }
+    requires few { w.clocks < 2 ^ 61 }
+    requires fits { position_fits waits.now w.position ≡ true }
     ensures { result ≡ spent_of waits.now w oa ob stored }
 {
     let mem_a = in_memory(oa);

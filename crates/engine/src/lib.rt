@@ -89,8 +89,7 @@ pub fn engine(
     let mut position = begins_at(waits, from);
     let mut clocks: u64 = 0;
     let mut pairs = noted;
-    let mut i: u32 = 0;
-    while i < count {
+    for i in 0..count {
         let s = step(&mut regs, memory, bottom, journal, map, &mut pairs, flags);
         let ending = s.ending;
         if !goes_on(ending) {
@@ -105,7 +104,14 @@ pub fn engine(
         flags = s.flags;
         clocks = c.clocks;
         position = c.position;
-        i += 1;
     }
-    run_end(Ending::Finished, regs, flags, position, i, clocks, pairs)
+    run_end(
+        Ending::Finished,
+        regs,
+        flags,
+        position,
+        count,
+        clocks,
+        pairs,
+    )
 }

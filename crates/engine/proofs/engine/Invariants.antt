@@ -1,4 +1,3 @@
-use Prim.Native.Nat.{◌-◌}
 use Rattle.model.specs.Board.{board_with}
 use Rattle.model.specs.Packed.{packed_machine}
 use Rattle.engine.proofs.Turns.{At}
@@ -6,6 +5,3 @@ use Rattle.engine.proofs.engine.Given as goal
 
 abbrev pub invariant-loop-i : goal.invariant-loop-i
 invariant-loop-i l = At l.initial.memory (board_with l.bottom l.waits) l.initial.position l.initial.journal l.initial.map l.noted (packed_machine l.initial.regs l.initial.flags) l.count l.memory l.journal l.map l.regs l.flags l.position l.clocks l.pairs l.i
-
-abbrev pub decreases-loop-i : goal.decreases-loop-i
-decreases-loop-i l = l.count - l.i
