@@ -4,17 +4,27 @@ use mathlib.Core.Path.{◌≡◌, refl, sym, ap, ◌∙◌}
 use mathlib.Core.Bool.{Bool, true, false, not, cond, ◌&&◌, ◌||◌}
 use mathlib.Core.List.{List, [], ◌∷◌}
 use native.Mathlib.Nat.{div-eq_of_lt, zero-div, mod-lt, mod-eq_of_lt, one-mul, pow-suc}
-use native.Mathlib.Numerals.{add-one}
 use native.Mathlib.Omega.{arith}
 use lib.Bits.{bit_or, or_shr, or_mod}
-use lib.Dec.{eqb, ltb, leb}
+use lib.Dec.{eqb, ltb}
 use lib.ListN.{length, set, replicate}
 use lib.Pow.{pow-add, pow-lt, shl-shr}
 use lib.Seq.{sets, get_or-set_other}
-use borrow.Author.Tests.{eqb-true, eqb-false, ltb-true, ltb-false, leb-true, leb-false, le-leb, lt-leb}
+use borrow.Author.Tests.{eqb-true, eqb-false, ltb-true, ltb-false, leb-true, le-leb, lt-leb}
+use Rattle.std.specs.List.{list_any, range_with_len}
 use Rattle.model.specs.Words.{field, bit, word_at, store_word}
 use Rattle.model.specs.Journal.{room_in, noted}
 use Rattle.marks.specs.Marks.{group_of, given, spare, marked, has_mark, with_bit, with_group, with_mark, listed, searched, known, noting_at, Notes}
+
+-- ---- tests
+
+pub or-false : (t : Bool) → (t || false) ≡ t
+or-false true = refl
+or-false false = refl
+
+pub or_assoc : (x y z : Bool) → ((x || y) || z) ≡ (x || (y || z))
+or_assoc true y z = refl
+or_assoc false y z = refl
 
 -- ---- one word
 
@@ -65,24 +75,13 @@ shifted a = rw one-mul (mod-eq_of_lt (pow-lt (mod-lt a (omega arith))))
 
 -- ---- words cleared
 
-pub clears_on : (map : List ℕ) (from count k : ℕ) → k < count
-    → sets (store_word map (from + k) 0) (from + (k + 1)) (replicate (count - (k + 1)) 0) ≡ sets map (from + k) (replicate (count - k) 0)
-clears_on map from count k h =
-    let f : from + (k + 1) ≡ suc (from + k) = omega arith in
-    let e : suc (count - (k + 1)) ≡ count - k = omega arith in
-    ap (λ (j : ℕ). sets (store_word map (from + k) 0) j (replicate (count - (k + 1)) 0)) f
-    ∙ ap (λ (n : ℕ). sets map (from + k) (replicate n 0)) e
-
-pub clears_first : (map : List ℕ) (from count : ℕ) → sets map (from + 0) (replicate (count - 0) 0) ≡ sets map from (replicate count 0)
-clears_first map from count =
-    let f : from + 0 ≡ from = omega arith in
-    let e : count - 0 ≡ count = omega arith in
-    rw (f, e)
-
-pub clears_last : (map : List ℕ) (from count k : ℕ) → count ≤ k → map ≡ sets map (from + k) (replicate (count - k) 0)
-clears_last map from count k h =
-    let e : 0 ≡ count - k = omega arith in
-    ap (λ (n : ℕ). sets map (from + k) (replicate n 0)) e
+pub clears_on : (map : List ℕ) (end i : ℕ) → i < end
+    → sets (store_word map i 0) (i + 1) (replicate (end - (i + 1)) 0) ≡ sets map i (replicate (end - i) 0)
+clears_on map end i h =
+    let f : i + 1 ≡ suc i = omega arith in
+    let e : suc (end - (i + 1)) ≡ end - i = omega arith in
+    ap (λ (j : ℕ). sets (store_word map i 0) j (replicate (end - (i + 1)) 0)) f
+    ∙ ap (λ (n : ℕ). sets map i (replicate n 0)) e
 
 set-zero : (l : List ℕ) (i : ℕ) → word_at (set l i 0) i ≡ 0
 set-zero [] i = refl
@@ -104,35 +103,23 @@ cleared (suc n) (suc i) l at h =
 
 -- ---- the search
 
-module _ (journal : List ℕ) (address : ℕ) where
-  listed-stays : (n k : ℕ) → k ≤ n → listed journal k address ≡ true → listed journal n address ≡ true
-  unfolding listed
-  listed-stays zero k h e = let z : k ≡ 0 = omega arith in rw z at e
-  listed-stays (suc n) k h e = go (leb k n) refl (λ l. listed-stays n k l e)
-    where
-      go : (t : Bool) → leb k n ≡ t → (k ≤ n → listed journal n address ≡ true) → (listed journal n address || eqb (word_at journal (2 * n)) address) ≡ true
-      go true l less = rw (less (leb-true k n l))
-      go false l less = let z : k ≡ suc n = omega (arith, leb-false k n l) in rw z at e
+any-one-more : (test : ℕ → Bool) (n a : ℕ) → list_any test (range_with_len a (suc n)) ≡ (list_any test (range_with_len a n) || test (a + n))
+any-one-more test zero a =
+    let e : a ≡ a + 0 = omega arith in
+    or-false (test a) ∙ ap test e
+any-one-more test (suc n) a =
+    let e : a + 1 + n ≡ a + suc n = omega arith in
+    ap (λ (t : Bool). test a || t) (any-one-more test n (a + 1) ∙ ap (λ (k : ℕ). list_any test (range_with_len (a + 1) n) || test k) e)
+    ∙ sym (or_assoc (test a) (list_any test (range_with_len (a + 1) n)) (test (a + suc n)))
 
-  pub listed-on : (k : ℕ) → listed journal k address ≡ false → eqb (word_at journal (2 * k)) address ≡ false → listed journal (k + 1) address ≡ false
-  unfolding listed
-  listed-on k e f = ap (λ (n : ℕ). listed journal n address) (add-one k) ∙ rw (e, f)
-
-  pub search_over : (pairs : ℕ) → room_in journal < pairs → false ≡ searched journal pairs address
-  search_over pairs h = rw (lt-leb pairs (room_in journal) h)
-
-  pub search_found : (pairs k : ℕ) → pairs ≤ room_in journal → k < pairs → eqb (word_at journal (2 * k)) address ≡ true → true ≡ searched journal pairs address
-  unfolding listed
-  search_found pairs k h l e = rw (le-leb pairs (room_in journal) h) (sym (listed-stays pairs (suc k) l (or_true (listed journal k address) e)))
-    where
-      or_true : (t : Bool) {u : Bool} → u ≡ true → (t || u) ≡ true
-      or_true true e = refl
-      or_true false e = e
-
-  pub search_none : (pairs k : ℕ) → pairs ≤ room_in journal → k ≤ pairs → pairs ≤ k → listed journal k address ≡ false → false ≡ searched journal pairs address
-  search_none pairs k h l m e =
-      let same : k ≡ pairs = omega arith in
-      rw (le-leb pairs (room_in journal) h) (sym (rw same at e))
+-- the places looked at in turn
+pub listed_range : (journal : List ℕ) (address n : ℕ)
+    → list_any (λ (k : ℕ). eqb (word_at journal (2 * k)) address) (range_with_len 0 n) ≡ listed journal n address
+unfolding listed
+listed_range journal address zero = refl
+listed_range journal address (suc n) =
+    let e : 0 + n ≡ n = omega arith in
+    any-one-more (λ (k : ℕ). eqb (word_at journal (2 * k)) address) n 0 ∙ rw (e, listed_range journal address n)
 
 -- ---- whether an address has a pair, and a store noted
 
@@ -174,18 +161,11 @@ module _ (map journal : List ℕ) (pairs address : ℕ) where
 
 -- ---- a group to give
 
-both_first : (t u : Bool) → (t && u) ≡ true → t ≡ true
-both_first true u e = refl
-both_first false u e = e
-
 both-second : (t u : Bool) → (t && u) ≡ true → u ≡ true
 both-second true u e = e
 both-second false u e = cc
 
 module _ (map : List ℕ) (e : spare map ≡ true) where
-  pub spare-given : given map < 65535
-  spare-given = ltb-true (given map) 65535 (both_first (ltb (given map) 65535) _ e)
-
   pub spare-fits : 16384 + 32 * (given map + 2) ≤ length map
   spare-fits = leb-true (16384 + 32 * (given map + 2)) (length map) (both-second (ltb (given map) 65535) _ e)
 

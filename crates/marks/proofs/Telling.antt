@@ -14,17 +14,9 @@ use Rattle.model.specs.Words.{bit, word_at, store_word}
 use Rattle.model.specs.Journal.{Pair, has_pair, room_in, journal_words, noted}
 use Rattle.model.proofs.Runs.{words_append}
 use Rattle.marks.specs.Marks.{group_of, given, spare, bit_place, marked, with_bit, with_group, with_mark, forgotten, listed, searched, known, Tells}
-use Rattle.marks.proofs.Marking.{or_bit, no-bit, sets-before, cleared, spare-fits}
+use Rattle.marks.proofs.Marking.{or-false, or_assoc, or_bit, no-bit, sets-before, cleared, spare-fits}
 
 -- ---- the pairs in a journal's places
-
-or-false : (t : Bool) → (t || false) ≡ t
-or-false true = refl
-or-false false = refl
-
-or_assoc : (x y z : Bool) → ((x || y) || z) ≡ (x || (y || z))
-or_assoc true y z = refl
-or_assoc false y z = refl
 
 has-one-more : (ps : List Pair) (p : Pair) (a : ℕ) → has_pair (ps ++ p ∷ []) a ≡ (has_pair ps a || eqb p.address a)
 unfolding has_pair

@@ -16,9 +16,9 @@ pub fn bit_place(group: u32, address: u32) -> usize
 fn set_bit(map: &mut [u32], address: u32)
     ensures { map.new ≡ with_bit map.old address }
 {
-    let group = load(&*map, (address / 1_024) as usize);
+    let group = load(map, (address / 1_024) as usize);
     let at = bit_place(group, address);
-    let word = load(&*map, at);
+    let word = load(map, at);
     store(map, at, word | (1u32 << (address % 32)));
 }
 
@@ -27,10 +27,8 @@ pub fn clear(map: &mut [u32], from: usize, count: usize)
     requires { from + count < 2 ^ 63 }
     ensures { map.new ≡ sets map.old from (replicate count 0) }
 {
-    let mut k = 0;
-    while k < count {
-        store(map, from + k, 0);
-        k += 1;
+    for i in from..from + count {
+        store(map, i, 0);
     }
 }
 
@@ -47,7 +45,7 @@ fn give_group(map: &mut [u32], address: u32)
     requires { given map.old < 65535 }
     ensures { map.new ≡ with_group map.old address }
 {
-    let next = load(&*map, 16_384) + 1;
+    let next = load(map, 16_384) + 1;
     clear(map, 16_384 + 32 * (next as usize), 32);
     store(map, 16_384, next);
     store(map, (address / 1_024) as usize, next);
@@ -57,12 +55,11 @@ fn give_group(map: &mut [u32], address: u32)
 pub fn mark(map: &mut [u32], address: u32)
     ensures { map.new ≡ with_mark map.old address }
 {
-    if load(&*map, (address / 1_024) as usize) != 0 {
-        set_bit(map, address);
-        return;
-    }
-    if has_spare(&*map) {
+    if load(map, (address / 1_024) as usize) == 0 {
+        if !has_spare(map) {
+            return;
+        }
         give_group(map, address);
-        set_bit(map, address);
     }
+    set_bit(map, address);
 }

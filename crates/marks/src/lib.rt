@@ -45,7 +45,7 @@ pub fn note(
 ) -> bool
     ensures { Notes map.old journal.old pairs.old address former map.new journal.new (noting_at result pairs.new) }
 {
-    if is_marked(&*map, address) {
+    if is_marked(map, address) {
         return false;
     }
     note_new(map, journal, pairs, address, former)
@@ -63,7 +63,7 @@ fn note_new(
     ensures { Notes map.old journal.old pairs.old address former map.new journal.new (noting_at result pairs.new) }
 {
     let n = *pairs;
-    if is_unmarked_known(&*map, &*journal, n, address) {
+    if is_unmarked_known(map, journal, n, address) {
         return false;
     }
     if journal.len() / 2 <= n {

@@ -9,17 +9,7 @@ use operands::load;
 fn is_listed(journal: &[u32], pairs: usize, address: u32) -> bool
     ensures { result ≡ searched journal.now pairs address }
 {
-    if journal.len() / 2 < pairs {
-        return false;
-    }
-    let mut k = 0;
-    while k < pairs {
-        if journal[2 * k] == address {
-            return true;
-        }
-        k += 1;
-    }
-    false
+    pairs <= journal.len() / 2 && (0..pairs).any(|k| journal[2 * k] == address)
 }
 
 // Whether an address without a mark has a pair: only a page without a group can have one, and only once the groups are used up.
@@ -27,11 +17,7 @@ pub fn is_unmarked_known(map: &[u32], journal: &[u32], pairs: usize, address: u3
     requires { has_mark map.now address ≡ false }
     ensures { result ≡ known map.now journal.now pairs address }
 {
-    if load(map, (address / 1_024) as usize) != 0 {
-        return false;
-    }
-    if has_spare(map) {
-        return false;
-    }
-    is_listed(journal, pairs, address)
+    load(map, (address / 1_024) as usize) == 0
+        && !has_spare(map)
+        && is_listed(journal, pairs, address)
 }
