@@ -1,6 +1,6 @@
 // Images made by the writer, some of them spoilt, and their ledgers.
 use image_writer::write;
-use ledger_text::{LONGEST_TEXT, ReportAnswer, report};
+use ledger_text::{LONGEST_TEXT, NoRoom, report};
 use model::{Flags, Machine};
 use text::put_text;
 
@@ -25,15 +25,15 @@ pub fn machine(r0: u32, r1: u32, r2: u32) -> Machine {
 fn show_in(name: &[u8], image: &[u8], size: usize, text: &mut [u8]) {
     let mut memory = [0u32; 4_096];
     io::write_all(STDOUT_FILENO, name);
-    if image.len() < size {
+    let Some(bytes) = image.get(..size) else {
         io::write_all(STDOUT_FILENO, b"no image\n");
         return;
-    }
-    match report(&image[..size], &mut memory, text) {
-        ReportAnswer::Text(count) => {
+    };
+    match report(bytes, &mut memory, text) {
+        Ok(count) => {
             io::write_all(STDOUT_FILENO, &text[..count]);
         }
-        ReportAnswer::NoRoom => {
+        Err(NoRoom) => {
             io::write_all(STDOUT_FILENO, b"no room\n");
         }
     }
@@ -44,15 +44,16 @@ fn show(name: &[u8], image: &[u8], size: usize) {
     show_in(name, image, size, &mut text);
 }
 
-// The image of some words, put to the front of a buffer; how long it is, 0 where there is no room for it.
-fn make(words: &[u32], start: Machine, image: &mut [u8]) -> usize {
-    write(words, start, 1, image).unwrap_or(0)
+// The image of some words, put to the front of a buffer: how long it is, where there is room for it.
+fn make(words: &[u32], start: Machine, image: &mut [u8]) -> Option<usize> {
+    write(words, start, 1, image).ok()
 }
 
+// Where no image was made, the ledger of no bytes.
 pub fn show_program(name: &[u8], words: &[u32], start: Machine) {
     let mut image = [0u8; 512];
     let size = make(words, start, &mut image);
-    show(name, &image, size);
+    show(name, &image, size.unwrap_or(0));
 }
 
 // One byte less of output than the longest ledger needs.
@@ -60,7 +61,7 @@ pub fn show_short(name: &[u8], words: &[u32], start: Machine) {
     let mut image = [0u8; 512];
     let mut text = [0u8; LONGEST_TEXT - 1];
     let size = make(words, start, &mut image);
-    show_in(name, &image, size, &mut text);
+    show_in(name, &image, size.unwrap_or(0), &mut text);
 }
 
 // So many bytes of the image of some words, with bytes after it.

@@ -25,10 +25,10 @@ module _ {out : List ℕ} {at : ℕ} where
   extends_by most le h = record { whole = h; near = omega (arith, h.place) }
 
 -- a figure, and the byte that ends it
-pub figure_put : {out : List ℕ} {at : ℕ} (most : ℕ) {end : ℕ} {figure out₁ out₂ : List ℕ} {size one : ℕ} → length figure ≤ most
-    → Puts out at figure out₁ size → Puts out₁ (at + size) (end ∷ []) out₂ one
-    → ExtendsBy (most + 1) out at (figure ++ end ∷ []) out₂ (at + size + one)
-figure_put most le h k = extends_by (most + 1) (rw length-append (omega arith)) (put h ⊳ put k)
+pub figure_put : {out : List ℕ} {at : ℕ} (most : ℕ) {end : ℕ} {figure out₁ out₂ : List ℕ} {size next : ℕ} → length figure ≤ most
+    → Puts out at figure out₁ size → Extends out₁ (at + size) (end ∷ []) out₂ next
+    → ExtendsBy (most + 1) out at (figure ++ end ∷ []) out₂ next
+figure_put most le h k = extends_by (most + 1) (rw length-append (omega arith)) (put h ⊳ k)
 
 -- a text at the buffer's start
 pub start : {out text out' : List ℕ} {size : ℕ} → Puts out 0 text out' size → Extends out 0 text out' size

@@ -1,7 +1,7 @@
 -- The loop that puts the text of a run in: where it stands, one line more, and its two ends.
 use Rattle.std.specs.Prelude.{Ok}
-use Prim.Native.Nat.{ℕ, ◌+◌, ◌≤◌, ◌<◌}
-use mathlib.Core.Path.{◌≡◌, refl, sym, ap, ◌∙◌}
+use Prim.Native.Nat.{ℕ, ◌+◌, ◌^◌, ◌≤◌, ◌<◌}
+use mathlib.Core.Path.{◌≡◌, refl, sym, ap, subst, ◌∙◌}
 use mathlib.Core.List.{List}
 use native.Mathlib.Omega.{arith}
 use lib.ListN.{length}
@@ -51,8 +51,9 @@ module _ {start : Machine} {memory₀ out₀ : List ℕ} {at₀ : ℕ} where
     abbrev run₀ : Run
     run₀ = begin start memory₀ 0
 
-    pub at_small : at ≤ at₀ + 480
-    at_small = omega (arith, a.text.place, lines-length start memory₀ ran (omega (arith, a.below)), a.below)
+    -- the lines are at most 480 bytes, after a heading of at most 25
+    pub near_start : at₀ ≤ 25 → at < 2 ^ 16
+    near_start h = omega (arith, a.text.place, lines-length start memory₀ ran (omega (arith, a.below)), a.below)
 
     clocks-so-far : clocks ≤ 176
     clocks-so-far = omega (arith, ap (λ (x : Run). x.clocks) a.state, clocks-small ran run₀, a.below)
@@ -110,10 +111,11 @@ module _ {start : Machine} {memory₀ out₀ : List ℕ} {at₀ : ℕ} where
 
     -- all instructions ran
     pub finished : {out₋ out' : List ℕ} {q : ℕ} → most_lines ≤ ran → Extends out₋ 0 heading out₀ at₀
-        → Extends out at (ending_text (ending_word Finished) ran clocks) out' q → RunPuts start memory₀ out₋ memory out' q
-    finished most top put =
+        → Extends out at (ending_text (ending_word Finished) most_lines clocks) out' q → RunPuts start memory₀ out₋ memory out' q
+    finished {out'} {q} most top put =
         let all : ran ≡ most_lines = omega (arith, a.below) in
+        let put' = subst (λ (n : ℕ). Extends out at (ending_text (ending_word Finished) n clocks) out' q) (sym all) put in
         record {
-          text = rw (finished-text run₀ a.state all) at (top ⊳ a.text ⊳ put);
+          text = rw (finished-text run₀ a.state all) at (top ⊳ a.text ⊳ put');
           words = sym (ap (λ (x : Run). x.memory) a.state) ∙ ap (λ (n : ℕ). (interpret ledger_board n run₀).memory) all;
         }

@@ -1,10 +1,10 @@
 -- The calls `report` and `report_input`: what is printed for an image, and every word and byte lent for it afterwards. Document 01, "The ledger program".
-use Rattle.std.specs.Prelude.{ℕ, ◌≡◌, Bool, cond, List, leb, length, take}
+use Rattle.std.specs.Prelude.{ℕ, ◌≡◌, Bool, cond, List, leb, length, take, Result, Ok, Err}
 use Rattle.model.specs.Words.{overlay}
 use Rattle.model.specs.Interpreter.{begin, interpret}
 use Rattle.image.specs.Reading.{Outcome, loaded, refused, read_of}
 use Rattle.ledger_lines.specs.Lines.{most_lines, ledger_board, longest_text, ledger}
-use Rattle.ledger_text.specs.declared.ReportAnswer.{ReportAnswer}
+use Rattle.ledger_text.specs.declared.NoRoom.{NoRoom}
 
 -- the words of the image at the memory's front, as the run leaves them; the others, and all of them after a refusal, stay
 abbrev pub ledger_words : Outcome → (memory : List ℕ) → List ℕ
@@ -16,13 +16,17 @@ abbrev pub roomy : (out : List ℕ) → Bool
 roomy out = leb longest_text (length out)
 
 -- how many bytes are put out: none where there is no room, which is no refusal of document 01
-abbrev pub text_length : ReportAnswer → ℕ
-text_length (ReportAnswer.Text bytes) = bytes
-text_length ReportAnswer.NoRoom = 0
+abbrev pub text_length : Result ℕ NoRoom → ℕ
+text_length (Ok bytes) = bytes
+text_length (Err why) = 0
+
+-- the answer: the text's length, or `NoRoom`
+abbrev pub length_answer : (out text : List ℕ) → Result ℕ NoRoom
+length_answer out text = cond (roomy out) (Ok (length text)) (Err (record {}))
 
 -- The answer is the text's length. An output that is not roomy is answered `NoRoom`, whatever the image, and then nothing changes.
-pub record Reports (bytes memory out memory' out' : List ℕ) (r : ReportAnswer) : Type 0 where
-  pub result : r ≡ cond (roomy out) (ReportAnswer.Text (length (ledger (read_of bytes (length memory))))) ReportAnswer.NoRoom
+pub record Reports (bytes memory out memory' out' : List ℕ) (r : Result ℕ NoRoom) : Type 0 where
+  pub result : r ≡ length_answer out (ledger (read_of bytes (length memory)))
   pub size : text_length r ≡ cond (roomy out) (length (ledger (read_of bytes (length memory)))) 0
   pub text : out' ≡ cond (roomy out) (overlay (ledger (read_of bytes (length memory))) out) out
   pub words : memory' ≡ cond (roomy out) (ledger_words (read_of bytes (length memory)) memory) memory
@@ -40,7 +44,7 @@ abbrev pub input_text : List ℕ → List ℕ
 input_text input = ledger (read_of (take most_input input) memory_words)
 
 -- the text and its length, as of `report`; no memory is lent
-pub record ReportsInput (input out out' : List ℕ) (r : ReportAnswer) : Type 0 where
-  pub result : r ≡ cond (roomy out) (ReportAnswer.Text (length (input_text input))) ReportAnswer.NoRoom
+pub record ReportsInput (input out out' : List ℕ) (r : Result ℕ NoRoom) : Type 0 where
+  pub result : r ≡ length_answer out (input_text input)
   pub size : text_length r ≡ cond (roomy out) (length (input_text input)) 0
   pub text : out' ≡ cond (roomy out) (overlay (input_text input) out) out

@@ -9,6 +9,8 @@ ghost use Rattle.ledger_text.specs.Report.{Reports, ReportsInput};
 use image_reader::read;
 use lines::put_refused;
 use running::put_run;
+use std::error::Error;
+use std::fmt;
 
 // The bytes of the longest ledger.
 pub const LONGEST_TEXT: usize = 496;
@@ -18,39 +20,42 @@ pub const MOST_INPUT: usize = 16_453;
 
 const MEMORY_WORDS: usize = 4_096;
 
-// Text: how many bytes the ledger has. NoRoom: the output has less room than the longest ledger needs.
-#[derive(Clone, Copy)]
-pub enum ReportAnswer {
-    Text(usize),
-    NoRoom,
+// The output has less room than the longest ledger needs.
+#[derive(Clone, Copy, PartialEq, Eq, Debug)]
+pub struct NoRoom;
+
+impl fmt::Display for NoRoom {
+    fn fmt<W: fmt::Write>(&self, f: &mut fmt::Formatter<W>) -> fmt::Result {
+        write!(f, "the output has less room than the longest ledger needs")
+    }
 }
 
-// The ledger of an image, put to the front of `out`. The memory, lent for the image's words, holds what their run leaves.
-pub fn report(bytes: &[u8], memory: &mut [u32], out: &mut [u8]) -> ReportAnswer
+impl Error for NoRoom {}
+
+// The ledger of an image, put to the front of `out`: how many bytes it has. The memory, lent for the image's words, holds what their run leaves.
+pub fn report(bytes: &[u8], memory: &mut [u32], out: &mut [u8]) -> Result<usize, NoRoom>
     ensures { Reports bytes.now memory.old out.old memory.new out.new result }
 {
     if out.len() < LONGEST_TEXT {
-        return ReportAnswer::NoRoom;
+        return Err(NoRoom);
     }
     let result = read(bytes, memory);
     let answer = result.answer;
     match answer {
-        Err(why) => ReportAnswer::Text(put_refused(out, why)),
+        Err(why) => Ok(put_refused(out, why)),
         Ok(loaded) => {
             let count = loaded.words as usize;
             let machine = result.machine;
-            ReportAnswer::Text(put_run(&mut memory[..count], machine, out))
+            Ok(put_run(&mut memory[..count], machine, out))
         }
     }
 }
 
 // The program: the ledger of an input, of which the first 16,453 bytes count, in a memory of 4,096 words.
-pub fn report_input(input: &[u8], out: &mut [u8]) -> ReportAnswer
+pub fn report_input(input: &[u8], out: &mut [u8]) -> Result<usize, NoRoom>
     ensures { ReportsInput input.now out.old out.new result }
 {
     let mut memory = [0u32; MEMORY_WORDS];
-    if input.len() <= MOST_INPUT {
-        return report(input, &mut memory, out);
-    }
-    report(&input[..MOST_INPUT], &mut memory, out)
+    let size = MOST_INPUT.min(input.len());
+    report(&input[..size], &mut memory, out)
 }

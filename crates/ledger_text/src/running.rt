@@ -1,6 +1,5 @@
 // The text of a run: heading, a line for each instruction, ending.
 ghost use Rattle.std.specs.Prelude.{◌≡◌, ◌≤◌, ◌<◌, length};
-ghost use Rattle.model.specs.Words.{word_at};
 ghost use Rattle.model.specs.Refusals.{most_words};
 ghost use Rattle.interpreter.specs.Calls.{Runs};
 ghost use Rattle.ledger_lines.specs.Lines.{ledger_board};
@@ -12,13 +11,6 @@ use model::{Ending, Machine, Refusal};
 use operands::load;
 
 const MOST_LINES: u64 = 16;
-
-// The word at an address.
-fn word_under(memory: &[u32], address: u32) -> u32
-    ensures { result ≡ word_at memory.now address }
-{
-    load(memory, address as usize)
-}
 
 fn run_one(memory: &mut [u32], machine: Machine) -> RunResult
     ensures { Runs memory.old ledger_board 0 machine 1 memory.new result }
@@ -41,22 +33,18 @@ pub fn put_run(memory: &mut [u32], start: Machine, out: &mut [u8]) -> usize
 {
     let mut at = put_heading(out);
     let mut machine = start;
-    let mut ran = 0;
     let mut clocks = 0;
-    while ran < MOST_LINES {
+    for ran in 0..MOST_LINES {
         let address = machine.regs[0];
-        let word = word_under(&*memory, address);
+        let word = load(memory, address as usize);
         let step = run_one(memory, machine);
         if step.ran == 0 {
             let answer = step.answer;
             return put_ending(out, at, ending_of(answer), ran, clocks);
         }
-        let next = step.machine;
-        let flags = next.flags;
-        ran += 1;
+        machine = step.machine;
         clocks += step.clocks;
-        at = put_line(out, at, ran, address, word, step.clocks, flags);
-        machine = next;
+        at = put_line(out, at, ran + 1, address, word, step.clocks, machine.flags);
     }
-    put_ending(out, at, Ending::Finished, ran, clocks)
+    put_ending(out, at, Ending::Finished, MOST_LINES, clocks)
 }

@@ -7,4 +7,4 @@ unfolding line
 returns c =
     c.put_decimal_figure-after_number.ensures.whole ⊳ c.put_hexadecimal_figure-after_address.ensures.whole
     ⊳ c.put_hexadecimal_figure-after_word.ensures.whole ⊳ c.put_decimal_figure-after_clocks.ensures.whole
-    ⊳ (put c.put_flag_digits.ensures ⊳ put c.put_text.ensures)
+    ⊳ (put c.put_flag_digits-size.ensures ⊳ c.put_end.ensures)
