@@ -34,36 +34,35 @@ fn run_end(
     ending: Ending,
     regs: [u32; 8],
     flags: u32,
-    position: usize,
+    spent: Spent,
     ran: u32,
-    clocks: u64,
     pairs: usize,
 ) -> Ended
-    ensures { result ≡ ended_at false ending (packed_machine regs flags) position ran clocks pairs }
+    ensures { result ≡ ended_at false ending (packed_machine regs flags) spent.position ran spent.clocks pairs }
 {
     let flags = unpacked(flags);
     Ended {
         full: false,
         ending,
         machine: Machine { regs, flags },
-        position,
+        position: spent.position,
         ran,
-        clocks,
+        clocks: spent.clocks,
         pairs,
     }
 }
 
 // The same where the journal is full: the registers have gone on, so the start's machine stands for them.
-fn full_end(start: Machine, position: usize, ran: u32, clocks: u64, pairs: usize) -> Ended
-    ensures { result ≡ ended_at true Finished start position ran clocks pairs }
+fn full_end(start: Machine, spent: Spent, ran: u32, pairs: usize) -> Ended
+    ensures { result ≡ ended_at true Finished start spent.position ran spent.clocks pairs }
 {
     Ended {
         full: true,
         ending: Ending::Finished,
         machine: start,
-        position,
+        position: spent.position,
         ran,
-        clocks,
+        clocks: spent.clocks,
         pairs,
     }
 }
@@ -84,34 +83,23 @@ pub fn engine(
     ensures { EngineEnds memory.old (board_with bottom waits.now) (begins_at waits.now from) journal.old map.old noted start count memory.new journal.new map.new result }
 {
     let mut regs = start.regs;
-    let first = start.flags;
-    let mut flags = packed(first);
-    let mut position = begins_at(waits, from);
-    let mut clocks: u64 = 0;
+    let mut flags = packed(start.flags);
+    let mut spent = Spent {
+        clocks: 0,
+        position: begins_at(waits, from),
+    };
     let mut pairs = noted;
     for i in 0..count {
         let s = step(&mut regs, memory, bottom, journal, map, &mut pairs, flags);
         let ending = s.ending;
         if !goes_on(ending) {
-            return run_end(ending, regs, flags, position, i, clocks, pairs);
+            return run_end(ending, regs, flags, spent, i, pairs);
         }
         if s.full {
-            return full_end(start, position, i, clocks, pairs);
+            return full_end(start, spent, i, pairs);
         }
-        let oa = s.oa;
-        let ob = s.ob;
-        let c = clocked(waits, Spent { clocks, position }, oa, ob, s.stored);
+        spent = clocked(waits, spent, s.oa, s.ob, s.stored);
         flags = s.flags;
-        clocks = c.clocks;
-        position = c.position;
     }
-    run_end(
-        Ending::Finished,
-        regs,
-        flags,
-        position,
-        count,
-        clocks,
-        pairs,
-    )
+    run_end(Ending::Finished, regs, flags, spent, count, pairs)
 }
