@@ -96,31 +96,17 @@ module _ (board : Board) (s : Latches) (regs memory : List ℕ) (step : Step) (o
 
 -- ---- one turn of the loop
 
--- the clocks done go up, and not past those asked for
-pub done-bounds : {i clocks : ℕ} → i < clocks → (stuck : Bool) {r : ℕ} → r ≡ cond stuck clocks (i + 1) → (i < r) × (r ≤ clocks)
-done-bounds h true e = (omega arith, omega arith)
-done-bounds h false e = (omega arith, omega arith)
-
-module _ (board : Board) (i clocks : ℕ) (g : Gate) {s : GateState} {m : List ℕ} {f : ℕ} (e : gate s m f ≡ gate_run board [] i g) where
-  ticked : {t : GateState} (b : Bool) {l : List ℕ} → Ticks board s m t b l → gate t l (f + as_number b) ≡ gate_run board [] (i + 1) g
+module _ (board : Board) (i : ℕ) (g : Gate) {s : GateState} {m : List ℕ} {f : ℕ} (e : gate s m f ≡ gate_run board [] i g) where
+  pub ticked : {t : GateState} (b : Bool) {l : List ℕ} → Ticks board s m t b l → gate t l (f + as_number b) ≡ gate_run board [] (i + 1) g
   unfolding gate_run
   ticked {t} b {l} h = ap (gate t l) (counted_is b f) ∙ h f ∙ ap (clock board) e ∙ sym (ap (λ (x : ℕ). gate_run board [] x g) (add-one i))
 
-  -- a machine that is stuck stands as it will after all the clocks
-  pub turn : i < clocks → {t : GateState} (b : Bool) {l : List ℕ} (stuck : Bool) → Ticks board s m t b l → Stands board t l stuck
-      → {r : ℕ} → r ≡ cond stuck clocks (i + 1) → gate t l (f + as_number b) ≡ gate_run board [] r g
-  turn less b true h stands d = rw d (stands_on board [] (i + 1) clocks g (ticked b h) (stands refl _) (λ c _ _. refl) (omega arith))
-  turn less b false h stands d = rw d (ticked b h)
+  -- a machine that is stuck after a clock stands as it will after all the clocks
+  pub stuck-ends : {clocks : ℕ} → i < clocks → {t : GateState} (b : Bool) {l : List ℕ} {stuck : Bool} → Ticks board s m t b l → Stands board t l stuck → stuck ≡ true
+      → gate t l (f + as_number b) ≡ gate_run board [] clocks g
+  stuck-ends {clocks} less b h stands p = stands_on board [] (i + 1) clocks g (ticked b h) (stands p _) (λ c _ _. refl) (omega arith)
 
--- ---- a run from a state
-
-module _ (board : Board) (memory : List ℕ) (i : ℕ) (begun : GateState) {s : GateState} {m : List ℕ} {f : ℕ}
-    (e : gate s m f ≡ gate_run board [] i (gate_from begun memory)) where
-  -- no clock finishes more than one instruction
-  pub finished-le : f ≤ i
-  finished-le = omega (arith, ap (λ (x : Gate). x.finished) e, finished-slow board [] i (gate_from begun memory))
-
-  pub run_ends : {clocks : ℕ} → i ≤ clocks → clocks ≤ i → gate s m f ≡ gate_run board [] clocks (gate_from begun memory)
-  run_ends {clocks} below all =
-      let n : clocks ≡ i = omega arith in
-      rw n e
+-- no clock of a run finishes more than one instruction
+pub finished-le : (board : Board) (memory : List ℕ) (i : ℕ) (begun : GateState) {s : GateState} {m : List ℕ} {f : ℕ}
+    → gate s m f ≡ gate_run board [] i (gate_from begun memory) → f ≤ i
+finished-le board memory i begun e = omega (arith, ap (λ (x : Gate). x.finished) e, finished-slow board [] i (gate_from begun memory))

@@ -1,5 +1,5 @@
 // The access protocol: an access takes its wait on its first clock, counts it down, and does the row's work on the last.
-ghost use Rattle.std.specs.Prelude.{◌≡◌, [], ◌-◌, ◌≤◌, ltb, length};
+ghost use Rattle.std.specs.Prelude.{◌≡◌, [], ◌≤◌, ltb, length};
 ghost use Rattle.model.specs.Refusals.{most_waits};
 ghost use Rattle.gate_rows.specs.Work.{state_of};
 ghost use Rattle.gate_machine.specs.Clock.{acknowledged_at, untouched_at, grant_of};
@@ -16,12 +16,6 @@ pub struct Grant {
     pub position: u32,
     pub begun: bool,
     pub left: u16,
-}
-
-fn one_less(left: u16) -> u16
-    ensures { result ≡ left - 1 }
-{
-    if 0 < left { left - 1 } else { 0 }
 }
 
 // An acknowledged access with `left` clocks after this one.
@@ -62,7 +56,7 @@ pub fn granted(s: Latches, access: bool, words: usize, waits: &[u16]) -> Grant
         return untouched(s, false);
     }
     if s.begun {
-        return acknowledged(one_less(s.left), s.position);
+        return acknowledged(s.left.saturating_sub(1), s.position);
     }
     let position = s.position as usize;
     acknowledged(

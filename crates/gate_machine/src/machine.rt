@@ -1,5 +1,5 @@
 // One clock on borrowed registers, and the loop over the clocks, which alone calls it.
-ghost use Rattle.std.specs.Prelude.{◌≡◌, cond, [], ◌+◌, ◌≤◌, ◌<◌, length};
+ghost use Rattle.std.specs.Prelude.{◌≡◌, [], ◌≤◌, length};
 ghost use Rattle.model.specs.Board.{board_with};
 ghost use Rattle.model.specs.GateMachine.{gate, gate_run};
 ghost use Rattle.model.specs.Refusals.{most_waits, gate_verdict};
@@ -11,7 +11,7 @@ ghost use Rattle.gate_machine.specs.Clock.{Ticks, Stands};
 use super::access::granted;
 use super::parts::each_latch;
 use gate_rows::{Latches, work};
-use step_table::{ACCESS, FINISHES, STAYS, Step, steps};
+use step_table::{Mark, Step, steps};
 
 // Stuck: no further clock changes anything, unless reset is held on it.
 #[derive(Clone, Copy)]
@@ -40,12 +40,13 @@ fn tick(
     requires { (step ≡ step_of s.row) × (length waits.now ≤ most_waits) }
     ensures { Ticks (board_with bottom waits.now) (state_of regs.old s) memory.old (state_of regs.new result.latches) result.finished memory.new × Stands (board_with bottom waits.now) (state_of regs.new result.latches) memory.new result.stuck }
 {
-    let Step(_, _, _, mark) = step;
-    let grant = granted(s, mark == ACCESS, memory.len(), waits);
-    let mut t = s;
-    t.position = grant.position;
-    t.left = grant.left;
-    t.begun = grant.begun;
+    let grant = granted(s, step.mark == Mark::Access, memory.len(), waits);
+    let t = Latches {
+        position: grant.position,
+        left: grant.left,
+        begun: grant.begun,
+        ..s
+    };
     if !grant.works {
         return Ticked {
             latches: t,
@@ -56,17 +57,9 @@ fn tick(
     let u = work(t, step, regs, memory, bottom);
     Ticked {
         latches: u,
-        finished: mark == FINISHES,
-        stuck: mark == STAYS,
+        finished: step.mark == Mark::Finishes,
+        stuck: step.mark == Mark::Stays,
     }
-}
-
-// How many clocks are done after one more: all, where no further clock changes anything.
-fn clocks_done(i: u64, clocks: u64, stuck: bool) -> u64
-    requires { i < clocks }
-    ensures { result ≡ cond stuck clocks (i + 1) }
-{
-    if stuck { clocks } else { i + 1 }
 }
 
 // Clocks without resets, on lent registers. The step table and the registers stay in place: a clock copies neither.
@@ -84,14 +77,13 @@ pub fn run_clocks(
     let table = steps();
     let mut s = each_latch(start);
     let mut finished: u64 = 0;
-    let mut i: u64 = 0;
-    while i < clocks {
-        let step = table[s.row as usize];
-        let t = tick(s, step, regs, memory, bottom, waits);
-        let next = t.latches;
-        s = next;
+    for _ in 0..clocks {
+        let t = tick(s, table[s.row as usize], regs, memory, bottom, waits);
+        s = t.latches;
         finished += t.finished as u64;
-        i = clocks_done(i, clocks, t.stuck);
+        if t.stuck {
+            break;
+        }
     }
     Clocked {
         latches: s,

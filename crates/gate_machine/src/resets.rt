@@ -20,27 +20,26 @@ pub struct GateEnd {
 }
 
 // What a reset does beside r0: row 0, and a begun access dropped.
-fn reset(mut s: Latches) -> Latches
+fn reset(s: Latches) -> Latches
     ensures { ResetLatches s result }
 {
-    s.row = 0;
-    s.begun = false;
-    s.left = 0;
-    s
+    Latches {
+        row: 0,
+        begun: false,
+        left: 0,
+        ..s
+    }
 }
 
 // The number at place j of the reset list where there is one below the run's clocks, else the run's end.
 fn next_reset(resets: &[u64], j: usize, clocks: u64) -> u64
     ensures { result ≡ next_reset resets.now j clocks }
 {
-    if resets.len() <= j {
-        return clocks;
-    }
-    let number = resets[j];
-    if number < clocks { number } else { clocks }
+    resets.get(j).copied().unwrap_or(clocks).min(clocks)
 }
 
-// All the clocks, with reset held on those in the list. In the loop i clocks are done, and the resets before place j.
+// All the clocks, with reset held on those in the list. In the loop `done` clocks are done, and the resets before place j. The clocks after
+// the last reset take the same call as those before: with a second call `run_clocks` is no part of the loop, and a reset costs three times as much.
 pub fn run_resets(
     memory: &mut [u32],
     bottom: u32,
@@ -55,22 +54,18 @@ pub fn run_resets(
     let mut regs = start.regs;
     let mut s = latches_of(start);
     let mut finished: u64 = 0;
-    let mut i: u64 = 0;
-    let mut j: usize = 0;
-    while i < clocks {
+    let mut done: u64 = 0;
+    for j in 0..=resets.len() {
         let until = next_reset(resets, j, clocks);
-        let e = run_clocks(s, &mut regs, memory, bottom, waits, until - i);
+        let e = run_clocks(s, &mut regs, memory, bottom, waits, until - done);
         finished += e.finished;
-        let before = e.latches;
-        if until < clocks {
-            regs[0] = 0;
-            s = reset(before);
-            i = until + 1;
-            j += 1;
-        } else {
-            s = before;
-            i = clocks;
+        s = e.latches;
+        if clocks <= until {
+            break;
         }
+        regs[0] = 0;
+        s = reset(s);
+        done = until + 1;
     }
     GateEnd {
         state: state_of(regs, s),

@@ -22,7 +22,7 @@ unfolding grant_of remaining position_now
 returns-then-s c =
     let access = c.if-not-access.false in
     let there = lt-ltb _ _ c.if-words-s.false in
-    rw (access, there, c.if-s.true, ← c.one_less.ensures) c.acknowledged.ensures
+    rw (access, there, c.if-s.true, ← c.saturating_sub.ensures) c.acknowledged.ensures
 
 -- a position of an accepted list has 32 bits
 pub overflow_cast-next_position : goal.overflow_cast-next_position
