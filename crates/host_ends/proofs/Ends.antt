@@ -4,8 +4,8 @@ use Rattle.traverses.specs.declared.TraverseEnding.{TraverseEnding}
 use Rattle.interpreter.specs.declared.FileEnding.{FileEnding}
 use Rattle.std.specs.Prelude.{Ok, Err, Result}
 use Prim.Native.Nat.{ℕ}
-use mathlib.Core.Path.{◌≡◌}
-use mathlib.Core.Bool.{Bool, true, false}
+use mathlib.Core.Path.{◌≡◌, refl}
+use mathlib.Core.Bool.{Bool, true, false, cond}
 use mathlib.Core.List.{List, [], ◌∷◌}
 use native.Mathlib.Omega.{arith}
 use borrow.Author.Tests.{ne_eqb}
@@ -56,30 +56,32 @@ module _ (r : RunResult) (code : ℕ) (n : code ≡ run_code r.answer) (lent res
       let f = rw n at e in
       record { returned = n; parts = rw f; numbers = rw f }
 
--- "undone" and "journal full" write the result alone
-module _ (lent result result' : List ℕ) where
-  pub file-stopped : (r : FileResult) (a : Result FileEnding Refusal) → carried_out (file_code a) ≡ true → finishes (file_code a) ≡ false → r.answer ≡ a
-      → result' ≡ laid two_places (file_counts r) result → FileEnds r lent result lent result' (file_code a)
-  file-stopped r a w s e p = record { returned = rw e; parts = rw (e, s); numbers = rw (e, w) p }
+-- an ending that is no refusal was carried out
+file-carried : (e : FileEnding) → carried_out (file_code (Ok e)) ≡ true
+file-carried FileEnding.Finished = refl
+file-carried FileEnding.Undone = refl
+file-carried FileEnding.Full = refl
 
-  pub traverse_stopped : (r : TraverseResult) (file : ℕ) (a : Result TraverseEnding Refusal) → carried_out (traverse_code a) ≡ true → finishes (traverse_code a) ≡ false
-      → undone_files a ≡ file → r.answer ≡ a
-      → result' ≡ laid three_places (file ∷ r.ran ∷ r.pairs ∷ []) result → TraverseEnds r lent result lent result' (traverse_code a)
-  traverse_stopped r file a w s u e p = record { returned = rw e; parts = rw (e, s); numbers = rw (e, w, u) p }
+traverse-carried : (e : TraverseEnding) → carried_out (traverse_code (Ok e)) ≡ true
+traverse-carried (TraverseEnding.Marked files) = refl
+traverse-carried TraverseEnding.Finished = refl
+traverse-carried (TraverseEnding.Undone file) = refl
+traverse-carried (TraverseEnding.Full file) = refl
 
 module _ (lent result lent' result' : List ℕ) where
-  pub traverse_done : (r : TraverseResult) (files : ℕ) (a : Result TraverseEnding Refusal) → traverse_code a ≡ done → undone_files a ≡ files → r.answer ≡ a
-      → lent' ≡ laid machine_size (machine_words r.machine) lent
-      → result' ≡ laid three_places (files ∷ r.ran ∷ r.pairs ∷ []) result → TraverseEnds r lent result lent' result' done
-  traverse_done r files a c u e w p = record { returned = rw (e, c); parts = rw (e, c) w; numbers = rw (e, c, u) p }
+  pub file-ended : (r : FileResult) (e : FileEnding) → r.answer ≡ Ok e → (number : ℕ) → number ≡ file_code (Ok e)
+      → lent' ≡ cond (finishes (file_code (Ok e))) (laid machine_size (machine_words r.machine) lent) lent
+      → result' ≡ laid two_places (file_counts r) result → FileEnds r lent result lent' result' number
+  file-ended r e a number n w p = record { returned = rw a n; parts = rw a w; numbers = rw (a, file-carried e) p }
 
-  pub file-finished : (r : FileResult) → r.answer ≡ Ok FileEnding.Finished → lent' ≡ laid machine_size (machine_words r.machine) lent
-      → result' ≡ laid two_places (file_counts r) result → FileEnds r lent result lent' result' done
-  file-finished r e w p = record { returned = rw e; parts = rw e w; numbers = rw e p }
+  pub traverse-ended : (r : TraverseResult) (e : TraverseEnding) → r.answer ≡ Ok e → (number : ℕ) → number ≡ traverse_code (Ok e)
+      → lent' ≡ cond (finishes (traverse_code (Ok e))) (laid machine_size (machine_words r.machine) lent) lent
+      → result' ≡ laid three_places (undone_files (Ok e) ∷ r.ran ∷ r.pairs ∷ []) result → TraverseEnds r lent result lent' result' number
+  traverse-ended r e a number n w p = record { returned = rw a n; parts = rw a w; numbers = rw (a, traverse-carried e) p }
 
-  pub gate-done : (r : GateResult) → r.outcome ≡ Ok tt → lent' ≡ laid state_size (state_words r.state) lent
-      → result' ≡ laid one_place (gate_counts r) result → GateEnds r lent result lent' result' done
-  gate-done r e w p = record { returned = rw e; parts = rw e w; numbers = rw e p }
+  pub gate-done : (r : GateResult) (finished : ℕ) → r.outcome ≡ Ok finished → lent' ≡ laid state_size (state_words r.state) lent
+      → result' ≡ laid one_place (finished ∷ []) result → GateEnds r lent result lent' result' done
+  gate-done r finished e w p = record { returned = rw e; parts = rw e w; numbers = rw e p }
 
   pub read_done : (r : ReadResult) (words version : ℕ) → r.answer ≡ Ok (record { words = words; version = version })
       → lent' ≡ laid machine_size (machine_words r.machine) lent → result' ≡ laid two_places (words ∷ version ∷ []) result

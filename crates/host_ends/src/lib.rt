@@ -5,6 +5,10 @@
 mod codes;
 mod places;
 
+ghost use Rattle.std.specs.Prelude.{◌≡◌, cond};
+ghost use Rattle.host_reading.specs.Layout.{machine_size};
+ghost use Rattle.host_words.specs.Words.{machine_words, laid};
+ghost use Rattle.host_calls.specs.Codes.{file_code, traverse_code, finishes, undone_files};
 ghost use Rattle.host_ends.specs.Ends.{RunEnds, FileEnds, GateEnds, TraverseEnds, ReadEnds, WriteEnds};
 
 pub use codes::MISFIT;
@@ -13,7 +17,7 @@ use gate_machine::GateResult;
 use host_words::{put_machine, put_state};
 use image::{LoadedImage, ReadResult};
 use interpreter::{FileEnding, FileResult, RunResult};
-use model::Refusal;
+use model::{Machine, Refusal};
 use places::put_result;
 use refusals::refusal_number;
 use traverses::{TraverseEnding, TraverseResult};
@@ -30,24 +34,30 @@ pub fn end_run(r: RunResult, machine: &mut [u32], res: &mut [u64]) -> u32
     code
 }
 
+// The code of a file run's ending; its machine is put where it finished.
+fn end_file(ending: FileEnding, last: Machine, machine: &mut [u32]) -> u32
+    ensures code { result ≡ file_code (Ok ending) }
+    ensures parts { machine.new ≡ cond (finishes (file_code (Ok ending))) (laid machine_size (machine_words last) machine.old) machine.old }
+{
+    match ending {
+        FileEnding::Finished => {
+            put_machine(last, machine);
+            DONE
+        }
+        FileEnding::Undone => STOPPED,
+        FileEnding::Full => JOURNAL_FULL,
+    }
+}
+
 pub fn end_file_run(r: FileResult, machine: &mut [u32], res: &mut [u64]) -> u32
     ensures { FileEnds r machine.old res.old machine.new res.new result }
 {
     let answer = r.answer;
     match answer {
         Err(why) => refusal_number(why),
-        Ok(FileEnding::Undone) => {
+        Ok(ending) => {
             put_result([r.ran as u64, r.pairs as u64], res);
-            STOPPED
-        }
-        Ok(FileEnding::Full) => {
-            put_result([r.ran as u64, r.pairs as u64], res);
-            JOURNAL_FULL
-        }
-        Ok(FileEnding::Finished) => {
-            put_machine(r.machine, machine);
-            put_result([r.ran as u64, r.pairs as u64], res);
-            DONE
+            end_file(ending, r.machine, machine)
         }
     }
 }
@@ -66,29 +76,41 @@ pub fn end_gate_run(r: GateResult, state: &mut [u32], res: &mut [u64]) -> u32
     }
 }
 
+// The mask of the undone files, or the number of the file that the traverse came to; 0 where none was undone.
+fn undone_files(ending: TraverseEnding) -> u64
+    ensures { result ≡ undone_files (Ok ending) }
+{
+    match ending {
+        TraverseEnding::Marked(files) => files,
+        TraverseEnding::Finished => 0,
+        TraverseEnding::Undone(file) | TraverseEnding::Full(file) => file as u64,
+    }
+}
+
+// The code of a traverse's ending; its machine is put where the traverse was not taken back.
+fn end_files(ending: TraverseEnding, last: Machine, machine: &mut [u32]) -> u32
+    ensures code { result ≡ traverse_code (Ok ending) }
+    ensures parts { machine.new ≡ cond (finishes (traverse_code (Ok ending))) (laid machine_size (machine_words last) machine.old) machine.old }
+{
+    match ending {
+        TraverseEnding::Finished | TraverseEnding::Marked(_) => {
+            put_machine(last, machine);
+            DONE
+        }
+        TraverseEnding::Undone(_) => STOPPED,
+        TraverseEnding::Full(_) => JOURNAL_FULL,
+    }
+}
+
 pub fn end_traverse(r: TraverseResult, machine: &mut [u32], res: &mut [u64]) -> u32
     ensures { TraverseEnds r machine.old res.old machine.new res.new result }
 {
     let answer = r.answer;
     match answer {
         Err(why) => refusal_number(why),
-        Ok(TraverseEnding::Undone(file)) => {
-            put_result([file as u64, r.ran as u64, r.pairs as u64], res);
-            STOPPED
-        }
-        Ok(TraverseEnding::Full(file)) => {
-            put_result([file as u64, r.ran as u64, r.pairs as u64], res);
-            JOURNAL_FULL
-        }
-        Ok(TraverseEnding::Finished) => {
-            put_machine(r.machine, machine);
-            put_result([0, r.ran as u64, r.pairs as u64], res);
-            DONE
-        }
-        Ok(TraverseEnding::Marked(files)) => {
-            put_machine(r.machine, machine);
-            put_result([files, r.ran as u64, r.pairs as u64], res);
-            DONE
+        Ok(ending) => {
+            put_result([undone_files(ending), r.ran as u64, r.pairs as u64], res);
+            end_files(ending, r.machine, machine)
         }
     }
 }

@@ -1,8 +1,8 @@
 use Rattle.host.proofs.Answers.{gate-misfit, gate-formed}
 use Rattle.host.proofs.fm8502_gate_run.Goals as goal
 
-pub returns-then-not-lent : goal.returns-then-not-lent
-returns-then-not-lent c = gate-misfit _ _ _ _ _ _ _ _ c.state_lent-lent.ensures c.if-not-lent.true
+pub returns-in_default : goal.returns-in_default
+returns-in_default c = gate-misfit _ _ _ _ _ _ _ _ c.state_lent.ensures c.in_default.is
 
 pub returns : goal.returns
-returns c = gate-formed _ _ _ _ _ _ _ _ c.state_lent-lent.ensures c.if-not-lent.false _ _ c.run-r.ensures _ _ _ c.end_gate_run.ensures
+returns c = gate-formed _ _ _ _ _ _ _ _ c.state_lent.ensures c.in-Some.is _ _ c.run-r.ensures _ _ _ c.end_gate_run.ensures

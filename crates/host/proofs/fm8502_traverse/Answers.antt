@@ -4,8 +4,8 @@ use Rattle.host.proofs.fm8502_traverse.Goals as goal
 pub returns-then-files-ne0 : goal.returns-then-files-ne0
 returns-then-files-ne0 c = files-misfit _ _ _ _ _ _ _ _ c.if-files-ne0.true
 
-pub returns-then-not-lent : goal.returns-then-not-lent
-returns-then-not-lent c = traverse_misfit _ _ _ _ _ _ _ _ c.if-files-ne0.false _ c.machine_lent-lent.ensures c.if-not-lent.true
+pub returns-in_default : goal.returns-in_default
+returns-in_default c = traverse_misfit _ _ _ _ _ _ _ _ c.if-files-ne0.false _ c.machine_lent.ensures c.in_default.is
 
 pub returns : goal.returns
-returns c = traverse_formed _ _ _ _ _ _ _ _ c.if-files-ne0.false _ c.machine_lent-lent.ensures c.if-not-lent.false _ _ _ c.traverse-r.ensures _ _ _ c.end_traverse.ensures
+returns c = traverse_formed _ _ _ _ _ _ _ _ c.if-files-ne0.false _ c.machine_lent.ensures c.in-Some.is _ _ _ c.traverse-r.ensures _ _ _ c.end_traverse.ensures

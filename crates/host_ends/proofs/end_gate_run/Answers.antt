@@ -6,5 +6,5 @@ use Rattle.host_ends.proofs.end_gate_run.Goals as goal
 pub returns-in-Err : goal.returns-in-Err
 returns-in-Err c = ends-refused _ _ _ _ _ _ _ _ turned_down c.in-Err.why (ap gate_number c.in-Err.is) _ c.refusal_number.ensures
 
-pub returns-in-Ran : goal.returns-in-Ran
-returns-in-Ran c = gate-done _ _ _ _ _ c.in-Ran.is c.put_state.ensures c.put_result.ensures
+pub returns-in-Ok : goal.returns-in-Ok
+returns-in-Ok c = gate-done _ _ _ _ _ _ c.in-Ok.is c.put_state.ensures c.put_result.ensures

@@ -9,24 +9,24 @@ returns-then-out-lt-LONGEST_TEXT c = report_no_room c.if-out-lt-LONGEST_TEXT.tru
 pub slice_bounds-put_run-end : goal.slice_bounds-put_run-end
 slice_bounds-put_run-end c =
     let read = c.read-result in
-    within read.ensures c.in-Loaded.is read.auto.memory
+    within read.ensures c.in-Ok.is read.auto.memory
 
-pub slice_bounds-put_run-end-in-Loaded : goal.slice_bounds-put_run-end-in-Loaded
-slice_bounds-put_run-end-in-Loaded c =
+pub slice_bounds-put_run-end-in-Ok : goal.slice_bounds-put_run-end-in-Ok
+slice_bounds-put_run-end-in-Ok c =
     let read = c.read-result in
-    sym (length-take-le _ _ (within read.ensures c.in-Loaded.is read.auto.memory))
+    sym (length-take-le _ _ (within read.ensures c.in-Ok.is read.auto.memory))
 
 pub put_run-requires : goal.put_run-requires
 put_run-requires c =
     let read = c.read-result in
-    words-fit read.ensures c.in-Loaded.is read.auto.memory
+    words-fit read.ensures c.in-Ok.is read.auto.memory
 
 pub returns-in-Err : goal.returns-in-Err
 returns-in-Err c =
     report_refused c.read-result.ensures c.in-Err.is c.if-out-lt-LONGEST_TEXT.false
     c.put_refused.ensures
 
-pub returns-in-Loaded : goal.returns-in-Loaded
-returns-in-Loaded c =
-    report_carried c.read-result.ensures c.in-Loaded.is c.read-result.auto.memory c.if-out-lt-LONGEST_TEXT.false
+pub returns-in-Ok : goal.returns-in-Ok
+returns-in-Ok c =
+    report_carried c.read-result.ensures c.in-Ok.is c.read-result.auto.memory c.if-out-lt-LONGEST_TEXT.false
     c.put_run.ensures c.put_run.auto.memory
