@@ -4,8 +4,9 @@
 
 mod clocks;
 
-ghost use Rattle.std.specs.Prelude.{◌≡◌, true, false};
+ghost use Rattle.std.specs.Prelude.{◌≡◌, true, false, not, ◌&&◌};
 ghost use Rattle.model.specs.declared.Ending.TheVariants.{Finished};
+ghost use Rattle.model.specs.Interpreter.{goes_on};
 ghost use Rattle.model.specs.Board.{board_with};
 ghost use Rattle.model.specs.Packed.{packed_machine};
 ghost use Rattle.engine.specs.Clocks.{begins_at};
@@ -27,6 +28,15 @@ pub struct Ended {
     pub ran: u32,
     pub clocks: u64,
     pub pairs: usize,
+}
+
+impl Ended {
+    // Whether all instructions ran, and the journal had room for their stores.
+    pub fn finished(&self) -> bool
+        ensures { result ≡ (not self.now.full && goes_on self.now.ending) }
+    {
+        !self.full & goes_on(self.ending)
+    }
 }
 
 // The loop's locals put together.

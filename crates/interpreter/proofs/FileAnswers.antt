@@ -26,19 +26,8 @@ use Rattle.journal.specs.Undo.{undone, restored}
 use Rattle.journal.proofs.Restoring.{run-restores}
 use Rattle.journal.proofs.Taking.{laid-over, taken}
 use Rattle.interpreter.specs.declared.FileResult.{FileResult}
-use Rattle.interpreter.specs.Calls.{file_answer_of, file_result, memory_end, file_number, file_board, whole_file, file_returned, file_words, file_places, FileRuns}
-use Rattle.interpreter.specs.Ends.{ended, FileEnds}
-
--- ---- the end, by whether it finished
-
-module _ {memory journal : List ℕ} {start : Machine} {e : Ended} {a : FileEnding} (told : a ≡ file_answer_of e.full e.ending) {g : Bool} (on : g ≡ goes_on e.ending) where
-  pub end-finished : (not e.full && g) ≡ true
-      → FileEnds memory journal start e memory (record { answer = Ok a; machine = e.machine; ran = e.ran; pairs = e.pairs })
-  end-finished t = let q : ended e ≡ true = ap (λ (x : Bool). not e.full && x) (sym on) ∙ t in record { result = rw (q, told); words = rw q }
-
-  pub end-undone : (not e.full && g) ≡ false → {memory' : List ℕ} → memory' ≡ undone (min e.pairs (room_in journal)) journal memory
-      → FileEnds memory journal start e memory' (record { answer = Ok a; machine = start; ran = e.ran; pairs = e.pairs })
-  end-undone t u = let q : ended e ≡ false = ap (λ (x : Bool). not e.full && x) (sym on) ∙ t in record { result = rw (q, told); words = rw q u }
+use Rattle.interpreter.specs.Calls.{file_result, memory_end, file_number, file_board, whole_file, file_returned, file_words, file_places, FileRuns}
+use Rattle.interpreter.specs.Ends.{FileEnds}
 
 -- ---- what the call returns and leaves
 

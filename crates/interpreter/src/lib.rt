@@ -1,10 +1,12 @@
 // The interpreter: runs of whole instructions with waits and clocks, and the file run with its undo journal.
 #![tactic(auto)]
 
-ghost use Rattle.std.specs.Prelude.{◌≡◌};
+ghost use Rattle.std.specs.Prelude.{◌≡◌, cond, min};
 ghost use Rattle.model.specs.Board.{board_with};
+ghost use Rattle.model.specs.Journal.{room_in};
+ghost use Rattle.journal.specs.Undo.{undone};
 ghost use Rattle.interpreter.specs.Calls.{file_answer_of, Runs, FileRuns};
-ghost use Rattle.interpreter.specs.Ends.{FileEnds};
+ghost use Rattle.interpreter.specs.Ends.{ended, FileEnds};
 
 use engine::{Ended, engine};
 use journal::undo;
@@ -92,25 +94,25 @@ fn file_answer(full: bool, ending: Ending) -> FileEnding
     FileEnding::Undone
 }
 
-// A file run that is not turned down. Where it does not finish, its stores are taken back.
+// The machine that a file leaves. Where it does not finish it is the start's, and its stores are taken back.
+pub fn settle(memory: &mut [u32], journal: &[u32], start: Machine, e: Ended) -> Machine
+    ensures machine { result ≡ cond (ended e) e.machine start }
+    ensures words { memory.new ≡ cond (ended e) memory.old (undone (min e.pairs (room_in journal.now)) journal.now memory.old) }
+{
+    if e.finished() {
+        return e.machine;
+    }
+    undo(memory, journal, e.pairs);
+    start
+}
+
+// A file run that is not turned down.
 fn file_end(memory: &mut [u32], journal: &[u32], start: Machine, e: Ended) -> FileResult
     ensures { FileEnds memory.old journal.now start e memory.new result }
 {
-    let ending = e.ending;
-    let answer = file_answer(e.full, ending);
-    if !e.full & goes_on(ending) {
-        let last = e.machine;
-        return FileResult {
-            answer: Ok(answer),
-            machine: last,
-            ran: e.ran,
-            pairs: e.pairs,
-        };
-    }
-    undo(memory, journal, e.pairs);
     FileResult {
-        answer: Ok(answer),
-        machine: start,
+        answer: Ok(file_answer(e.full, e.ending)),
+        machine: settle(memory, journal, start, e),
         ran: e.ran,
         pairs: e.pairs,
     }

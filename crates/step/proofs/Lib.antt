@@ -1,4 +1,3 @@
 mod Keeping
-mod Operands
 mod Steps
 pub mod Answers

@@ -19,13 +19,6 @@ pub struct Fetched {
     pub address: u32,
 }
 
-// An address as an index.
-fn index(address: u32) -> usize
-    ensures { result ≡ address }
-{
-    address as usize
-}
-
 // Nothing is taken of an instruction that does not run.
 fn nothing(ending: Ending) -> Fetched
     ensures { result ≡ nothing ending }
@@ -46,7 +39,8 @@ pub fn fetch(regs: &mut [u32; 8], memory: &[u32]) -> Fetched
     ensures { Fetches regs.old memory.now regs.new result }
 {
     let pc = regs[0];
-    let at = index(pc);
+    // By index: the loop was up to a tenth slower by `get`.
+    let at = pc as usize;
     if memory.len() <= at {
         return nothing(Ending::Outside);
     }

@@ -33,11 +33,7 @@ pub struct Stepped {
 pub fn goes_on(ending: Ending) -> bool
     ensures { result ≡ goes_on ending }
 {
-    match ending {
-        Ending::Finished => true,
-        Ending::Outside => false,
-        Ending::NoInstruction => false,
-    }
+    matches!(ending, Ending::Finished)
 }
 
 fn stopped(ending: Ending, flags: u32) -> Stepped

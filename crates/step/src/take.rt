@@ -3,7 +3,7 @@ ghost use Rattle.std.specs.Prelude.{◌≡◌};
 ghost use Rattle.step.specs.Steps.{taken_of, Takes};
 
 use model::Operand;
-use operands::load;
+use operands::{in_memory, load};
 use registers::{register_word, set_register, step_down};
 
 // Whether what the operand addresses is there, its register's word, its value.
@@ -18,25 +18,18 @@ fn look(o: Operand, regs: &[u32; 8], memory: &[u32]) -> Taken
     ensures { result ≡ taken_of o regs.now memory.now }
 {
     let word = register_word(o, regs);
-    let addressed = match o {
-        Operand::Direct(_) => false,
-        Operand::Indirect(_) => true,
-        Operand::Before(_) => true,
-        Operand::After(_) => true,
-    };
-    if addressed {
+    if in_memory(o) {
         let i = word as usize;
-        Taken {
+        return Taken {
             present: i < memory.len(),
             word,
             value: load(memory, i),
-        }
-    } else {
-        Taken {
-            present: true,
-            word,
-            value: word,
-        }
+        };
+    }
+    Taken {
+        present: true,
+        word,
+        value: word,
     }
 }
 

@@ -1,4 +1,4 @@
--- One file: its end, and the whole of it, from its words laid and from its run.
+-- One file, from its words laid and from its run.
 use Prim.Native.Nat.{ℕ, min}
 use mathlib.Core.Path.{◌≡◌, refl, sym, ap, ap₂, ◌∙◌}
 use mathlib.Core.Bool.{Bool, true, false, not, cond, ◌&&◌}
@@ -21,27 +21,6 @@ use Rattle.traverses.specs.Files.{Part}
 use Rattle.traverses.specs.Traverse.{entered}
 use Rattle.traverse.specs.declared.file.FileEnd.{FileEnd}
 use Rattle.traverse.specs.Steps.{laid_at, lay_kept, Lays, file_kept, end_of, kept_words, Ends, FileEnds}
-
--- ---- the end of a run
-
-not_full : (f g : Bool) → (not f && g) ≡ true → f ≡ false
-not_full true g q = cc
-not_full false g q = refl
-
-module _ {memory journal : List ℕ} {m : Machine} {e : Ended} {g : Bool} (on : g ≡ goes_on e.ending) where
-  pub end-finished : (not e.full && g) ≡ true
-      → Ends memory journal m e memory (record { done = true; full = false; machine = e.machine; ran = e.ran; pairs = e.pairs })
-  end-finished q =
-      let t : (not e.full && goes_on e.ending) ≡ true = ap (λ (x : Bool). not e.full && x) (sym on) ∙ q in
-      record { result = rw (not_full e.full g q, rw (not_full e.full g q) at t); words = rw t }
-
-  pub end-undone : (not e.full && g) ≡ false → {memory' : List ℕ} → memory' ≡ undone (min e.pairs (room_in journal)) journal memory
-      → Ends memory journal m e memory' (record { done = false; full = e.full; machine = m; ran = e.ran; pairs = e.pairs })
-  end-undone q u =
-      let t : (not e.full && goes_on e.ending) ≡ false = ap (λ (x : Bool). not e.full && x) (sym on) ∙ q in
-      record { result = rw t; words = rw t u }
-
--- ---- the file
 
 module _ (memory : List ℕ) (bottom : ℕ) (journal map : List ℕ) (pairs : ℕ) (load : List ℕ) (f : File) (m : Machine) {memory' journal' map' : List ℕ} {n : Noting}
     (h : Lays memory journal map pairs load f.place memory' journal' map' n) where

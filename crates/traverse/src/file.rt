@@ -5,9 +5,9 @@ ghost use Rattle.traverse.specs.Steps.{FileEnds, FileFits, Ends};
 
 use super::lay::lay;
 use engine::{Ended, engine};
+use interpreter::settle;
 use journal::undo;
 use model::Machine;
-use step::goes_on;
 use traverses::File;
 
 // What a file leaves beside memory and journal: whether it finished, whether the journal was full, the machine, the instructions that ran, and the
@@ -31,26 +31,14 @@ fn entered(m: Machine, entry: u32) -> Machine
     Machine { regs, flags }
 }
 
-// A file at its end; where it does not finish, all pairs are taken back.
+// A file at its end.
 fn end(memory: &mut [u32], journal: &[u32], m: Machine, e: Ended) -> FileEnd
     ensures { Ends memory.old journal.now m e memory.new result }
 {
-    let ending = e.ending;
-    if !e.full & goes_on(ending) {
-        let last = e.machine;
-        return FileEnd {
-            done: true,
-            full: false,
-            machine: last,
-            ran: e.ran,
-            pairs: e.pairs,
-        };
-    }
-    undo(memory, journal, e.pairs);
     FileEnd {
-        done: false,
+        done: e.finished(),
         full: e.full,
-        machine: m,
+        machine: settle(memory, journal, m, e),
         ran: e.ran,
         pairs: e.pairs,
     }
