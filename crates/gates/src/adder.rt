@@ -1,4 +1,4 @@
-// What the unit asks of an adder: that it adds. Each adder is a type without values, so that the compiler makes a unit of its own around each.
+// What the unit asks of an adder: that it adds. An adder holds nothing: its type says which it is, so that the compiler makes a unit around each.
 ghost use Rattle.gate_network.specs.Theorems.{Adds};
 
 pub trait Adder {
