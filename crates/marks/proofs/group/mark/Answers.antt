@@ -14,8 +14,8 @@ returns c =
     let address = c.args.address in
     c.set_bit.ensures
     ∙ elim c.if-load-eq0.branch [
-      then-load-eq0+else-not-has_spare w ↦
-        let none = eq-eqb _ _ (sym c.load.ensures ∙ w.if-load-eq0.true) in
-        rw (w.map-is, w.give_group.ensures) (mark_given map address none (sym w.has_spare.ensures ∙ w.if-not-has_spare.false))
-    | else-load-eq0 w ↦ rw w.map-is (mark_paged map address (ne_eqb _ _ (λ e. w.if-load-eq0.false (c.load.ensures ∙ e))))
+      | then-load-eq0+else-not-has_spare w ↦
+          let none = eq-eqb _ _ (sym c.load.ensures ∙ w.if-load-eq0.true) in
+          rw (w.map-is, w.give_group.ensures) (mark_given map address none (sym w.has_spare.ensures ∙ w.if-not-has_spare.false))
+      | else-load-eq0 w ↦ rw w.map-is (mark_paged map address (ne_eqb _ _ (λ e. w.if-load-eq0.false (c.load.ensures ∙ e))))
     ]

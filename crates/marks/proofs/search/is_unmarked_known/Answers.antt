@@ -13,11 +13,11 @@ returns-then-not-has_spare c =
     let first = c.args in
     let value = c.if-not-has_spare.true in
     elim c.if-load-eq0.branch [
-      then-load-eq0 w ↦
-        c.is_listed.ensures
-        ∙ known-searched first.map.now first.journal.now first.pairs first.address (eq-eqb _ _ (sym c.load.ensures ∙ w.if-load-eq0.true))
-        (sym w.has_spare.ensures ∙ turned _ (sym w.value-is ∙ value))
-    | else-load-eq0 w ↦ absurd (w.if-load-eq0.false (eqb-true _ _ (sym w.value-is ∙ value)))
+      | then-load-eq0 w ↦
+          c.is_listed.ensures
+          ∙ known-searched first.map.now first.journal.now first.pairs first.address (eq-eqb _ _ (sym c.load.ensures ∙ w.if-load-eq0.true))
+          (sym w.has_spare.ensures ∙ turned _ (sym w.value-is ∙ value))
+      | else-load-eq0 w ↦ absurd (w.if-load-eq0.false (eqb-true _ _ (sym w.value-is ∙ value)))
     ]
 
 pub returns-else-not-has_spare : goal.returns-else-not-has_spare
@@ -25,11 +25,11 @@ returns-else-not-has_spare c =
     let first = c.args in
     let value = c.if-not-has_spare.false in
     elim c.if-load-eq0.branch [
-      then-load-eq0 w ↦
-        value
-        ∙ known-spare first.map.now first.journal.now first.pairs first.address (eq-eqb _ _ (sym c.load.ensures ∙ w.if-load-eq0.true))
-        (sym w.has_spare.ensures ∙ turned _ (sym w.value-is ∙ value))
-    | else-load-eq0 w ↦
-        value
-        ∙ known-paged first.map.now first.journal.now first.pairs first.address c.requires (ne_eqb _ _ (λ e. w.if-load-eq0.false (c.load.ensures ∙ e)))
+      | then-load-eq0 w ↦
+          value
+          ∙ known-spare first.map.now first.journal.now first.pairs first.address (eq-eqb _ _ (sym c.load.ensures ∙ w.if-load-eq0.true))
+          (sym w.has_spare.ensures ∙ turned _ (sym w.value-is ∙ value))
+      | else-load-eq0 w ↦
+          value
+          ∙ known-paged first.map.now first.journal.now first.pairs first.address c.requires (ne_eqb _ _ (λ e. w.if-load-eq0.false (c.load.ensures ∙ e)))
     ]
