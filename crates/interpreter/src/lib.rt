@@ -82,7 +82,7 @@ pub fn run(
 }
 
 // How a file run ended.
-fn file_answer(full: bool, ending: Ending) -> FileEnding
+pub fn file_ending(full: bool, ending: Ending) -> FileEnding
     ensures { result ≡ file_answer_of full ending }
 {
     if full {
@@ -111,7 +111,7 @@ fn file_end(memory: &mut [u32], journal: &[u32], start: Machine, e: Ended) -> Fi
     ensures { FileEnds memory.old journal.now start e memory.new result }
 {
     FileResult {
-        answer: Ok(file_answer(e.full, e.ending)),
+        answer: Ok(file_ending(e.full, e.ending)),
         machine: settle(memory, journal, start, e),
         ran: e.ran,
         pairs: e.pairs,

@@ -15,6 +15,7 @@ use Rattle.engine.specs.Engine.{EngineEnds}
 use Rattle.engine.proofs.Spending.{begins-there}
 use Rattle.engine.proofs.Noting.{full-run}
 use Rattle.journal.specs.Undo.{undone}
+use Rattle.interpreter.specs.declared.FileEnding.{FileEnding}
 use Rattle.interpreter.specs.Calls.{file_board}
 use Rattle.traverses.specs.declared.File.{File}
 use Rattle.traverses.specs.Files.{Part}
@@ -37,7 +38,7 @@ module _ (memory : List ℕ) (bottom : ℕ) (journal map : List ℕ) (pairs : �
 
   -- its words do not all fit
   pub file-full : n.full ≡ true → {memory'' : List ℕ} → memory'' ≡ undone (min n.pairs (room_in journal')) journal' memory'
-      → FileEnds memory bottom journal map pairs load f m memory'' journal' map' (record { done = false; full = true; machine = m; ran = 0; pairs = n.pairs })
+      → FileEnds memory bottom journal map pairs load f m memory'' journal' map' (record { ending = FileEnding.Full; machine = m; ran = 0; pairs = n.pairs })
   file-full e u =
       let x : Kept = laid_at (entered m p) memory' journal' map' n.pairs true in
       let laid : lay_kept (laid_at (entered m p) memory journal map pairs false) f.place load ≡ x =

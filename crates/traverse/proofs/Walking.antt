@@ -1,17 +1,30 @@
 -- One file more, from what the file left.
 use Prim.Native.Nat.{ℕ, ◌+◌, ◌-◌, ◌^◌}
-use mathlib.Core.Path.{◌≡◌, ap, ap₂, ◌∙◌}
-use mathlib.Core.Bool.{cond}
+use mathlib.Core.Path.{◌≡◌, refl, ap, ap₂, ◌∙◌}
+use mathlib.Core.Bool.{Bool, true, false, not, cond, ◌&&◌}
 use mathlib.Core.List.{List}
 use native.Mathlib.Omega.{arith}
 use lib.ListN.{length, take, drop, length-drop}
 use lib.Seq.{length-take-le}
+use Rattle.model.specs.Interpreter.{goes_on}
 use Rattle.engine.specs.Keeping.{Kept}
+use Rattle.interpreter.specs.declared.FileEnding.{FileEnding}
 use Rattle.traverses.specs.declared.File.{File}
 use Rattle.traverses.specs.Files.{file_at, Part}
 use Rattle.traverse.specs.declared.file.FileEnd.{FileEnd}
 use Rattle.traverse.specs.declared.walk.Walk.{Walk}
-use Rattle.traverse.specs.Steps.{LaysFit, file_kept, end_of, kept_words, FileEnds, part_at, map_before, count_before, next_kept, NextFits, Goes}
+use Rattle.traverse.specs.Steps.{is_finished, is_full, LaysFit, file_kept, end_of, kept_words, FileEnds, part_at, map_before, count_before, next_kept, NextFits, Goes}
+
+-- the ending tells both
+finished-told : (f g : Bool) → is_finished (cond f FileEnding.Full (cond g FileEnding.Finished FileEnding.Undone)) ≡ (not f && g)
+finished-told true g = refl
+finished-told false true = refl
+finished-told false false = refl
+
+full-told : (f g : Bool) → is_full (cond f FileEnding.Full (cond g FileEnding.Finished FileEnding.Undone)) ≡ f
+full-told true g = refl
+full-told false true = refl
+full-told false false = refl
 
 module _ (map load files : List ℕ) (i : ℕ) (w : Walk) (fits : NextFits map load files i w) (f : File) (e : f ≡ file_at files i) where
   abbrev load_part : List ℕ
@@ -35,16 +48,17 @@ module _ (map load files : List ℕ) (i : ℕ) (w : Walk) (fits : NextFits map l
 
   pub goes : (memory : List ℕ) (bottom version : ℕ) (journal : List ℕ) {map₁ : List ℕ} {pairs₁ : ℕ} → map₁ ≡ map_before version (length memory) map → pairs₁ ≡ count_before version w.pairs
       → {memory' journal' map' : List ℕ} {r : FileEnd} → FileEnds memory bottom journal map₁ pairs₁ load_part f w.machine memory' journal' map' r
-      → {u : ℕ} → u ≡ cond r.done w.undone (w.undone + 2 ^ i)
+      → {u : ℕ} → u ≡ cond (is_finished r.ending) w.undone (w.undone + 2 ^ i) → {x : Bool} → x ≡ is_full r.ending
       → Goes memory bottom journal map load files version i w memory' journal' map'
-      (record { machine = r.machine; pairs = r.pairs; undone = u; ran = r.ran; full = r.full; at = w.at + f.size })
-  goes memory bottom version journal m p h marked =
+      (record { machine = r.machine; pairs = r.pairs; undone = u; ran = r.ran; full = x; at = w.at + f.size })
+  goes memory bottom version journal m p h marked told =
       let q : file_kept memory bottom journal _ _ (record { file = f; words = load_part }) w.machine ≡ next_kept memory bottom journal map load files version i w =
       ap₂ (λ (l : List ℕ) (n : ℕ). file_kept memory bottom journal l n (record { file = f; words = load_part }) w.machine) m p
       ∙ ap (λ (x : Part). file_kept memory bottom journal (map_before version (length memory) map) (count_before version w.pairs) x w.machine) same-part in
+      let k = next_kept memory bottom journal map load files version i w in
       let result = h.result ∙ ap (end_of w.machine) q in
       record {
-        result = rw (marked, result, ap (λ (g : File). g.size) e);
+        result = rw (marked, told, result, finished-told k.full (goes_on k.run.ending), full-told k.full (goes_on k.run.ending), ap (λ (g : File). g.size) e);
         words = h.words ∙ ap kept_words q;
         places = h.places ∙ ap (λ (k : Kept). k.places) q;
         marks = h.marks ∙ ap (λ (k : Kept). k.map) q;

@@ -1,6 +1,6 @@
 -- CR 1 and CR 11: what the parts of a traverse leave, with journal and map as the code keeps them (engine's `Kept`): the words of a file, one file, one
 -- file more.
-use Rattle.std.specs.Prelude.{ℕ, ◌+◌, ◌/◌, ◌^◌, ◌≤◌, ◌<◌, min, ◌≡◌, Bool, false, not, cond, ◌&&◌, List, [], ◌∷◌, eqb, length, take, drop}
+use Rattle.std.specs.Prelude.{ℕ, ◌+◌, ◌/◌, ◌^◌, ◌≤◌, ◌<◌, min, ◌≡◌, Bool, true, false, not, cond, ◌&&◌, List, [], ◌∷◌, eqb, length, take, drop}
 use Rattle.model.specs.declared.Machine.{Machine}
 use Rattle.model.specs.Words.{word_at, store_word}
 use Rattle.model.specs.Interpreter.{goes_on, begin}
@@ -10,7 +10,8 @@ use Rattle.marks.specs.Marks.{forgotten, Notes}
 use Rattle.engine.specs.declared.Ended.{Ended}
 use Rattle.engine.specs.Keeping.{Kept, kept_after, keep_run}
 use Rattle.journal.specs.Undo.{undone}
-use Rattle.interpreter.specs.Calls.{file_board}
+use Rattle.interpreter.specs.declared.FileEnding.{FileEnding}
+use Rattle.interpreter.specs.Calls.{file_board, file_answer_of}
 use Rattle.traverses.specs.declared.File.{File}
 use Rattle.traverses.specs.Files.{file_at, Part}
 use Rattle.traverses.specs.Traverse.{with_memory, entered}
@@ -57,9 +58,20 @@ file_kept memory bottom journal map pairs p m =
 abbrev pub kept_done : Kept → Bool
 kept_done k = not k.full && goes_on k.run.ending
 
+-- whether a file finished, and whether it found the journal full
+abbrev pub is_finished : FileEnding → Bool
+is_finished FileEnding.Finished = true
+is_finished FileEnding.Undone = false
+is_finished FileEnding.Full = false
+
+abbrev pub is_full : FileEnding → Bool
+is_full FileEnding.Finished = false
+is_full FileEnding.Undone = false
+is_full FileEnding.Full = true
+
 abbrev pub end_of : Machine → Kept → FileEnd
 end_of m k =
-    record { done = kept_done k; full = k.full; machine = cond (kept_done k) k.run.machine m; ran = k.run.ran; pairs = k.pairs }
+    record { ending = file_answer_of k.full k.run.ending; machine = cond (kept_done k) k.run.machine m; ran = k.run.ran; pairs = k.pairs }
 
 -- where it does not finish, all that the journal holds is taken back
 abbrev pub kept_words : Kept → List ℕ
@@ -67,7 +79,7 @@ kept_words k = cond (kept_done k) k.run.memory (undone (min k.pairs (room_in k.p
 
 -- the end of a file whose run has ended
 pub record Ends (memory journal : List ℕ) (m : Machine) (e : Ended) (memory' : List ℕ) (r : FileEnd) : Type 0 where
-  pub result : r ≡ record { done = not e.full && goes_on e.ending; full = e.full; machine = cond (not e.full && goes_on e.ending) e.machine m; ran = e.ran; pairs = e.pairs }
+  pub result : r ≡ record { ending = file_answer_of e.full e.ending; machine = cond (not e.full && goes_on e.ending) e.machine m; ran = e.ran; pairs = e.pairs }
   pub words : memory' ≡ cond (not e.full && goes_on e.ending) memory (undone (min e.pairs (room_in journal)) journal memory)
 
 abbrev pub FileFits : (map load : List ℕ) → File → Type 0

@@ -5,17 +5,15 @@ ghost use Rattle.traverse.specs.Steps.{FileEnds, FileFits, Ends};
 
 use super::lay::lay;
 use engine::{Ended, engine};
-use interpreter::settle;
+use interpreter::{FileEnding, file_ending, settle};
 use journal::undo;
 use model::Machine;
 use traverses::File;
 
-// What a file leaves beside memory and journal: whether it finished, whether the journal was full, the machine, the instructions that ran, and the
-// journal's pairs.
+// What a file leaves beside memory and journal: how it ended, the machine, the instructions that ran, and the journal's pairs.
 #[derive(Clone, Copy)]
 pub struct FileEnd {
-    pub done: bool,
-    pub full: bool,
+    pub ending: FileEnding,
     pub machine: Machine,
     pub ran: u32,
     pub pairs: usize,
@@ -36,8 +34,7 @@ fn end(memory: &mut [u32], journal: &[u32], m: Machine, e: Ended) -> FileEnd
     ensures { Ends memory.old journal.now m e memory.new result }
 {
     FileEnd {
-        done: e.finished(),
-        full: e.full,
+        ending: file_ending(e.full, e.ending),
         machine: settle(memory, journal, m, e),
         ran: e.ran,
         pairs: e.pairs,
@@ -62,8 +59,7 @@ pub fn one_file(
     if n.full {
         undo(memory, &*journal, n.pairs);
         return FileEnd {
-            done: false,
-            full: true,
+            ending: FileEnding::Full,
             machine: m,
             ran: 0,
             pairs: n.pairs,

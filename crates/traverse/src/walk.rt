@@ -1,9 +1,10 @@
 // The files of a traverse one after the other.
 ghost use Rattle.std.specs.Prelude.{◌≡◌, cond, ◌+◌, ◌^◌, ◌<◌};
-ghost use Rattle.traverse.specs.Steps.{outset, map_before, count_before, NextFits, Goes};
+ghost use Rattle.traverse.specs.Steps.{is_finished, is_full, outset, map_before, count_before, NextFits, Goes};
 
 use super::file::one_file;
 use file_list::file_at;
+use interpreter::FileEnding;
 use marks::forget;
 use model::Machine;
 
@@ -34,14 +35,21 @@ pub fn set_out(start: Machine) -> Walk
 }
 
 // The mask with file i, where it is undone.
-fn marked(undone: u64, i: usize, done: bool) -> u64
+fn marked(undone: u64, i: usize, ending: FileEnding) -> u64
     requires { (i < 64) × (undone < 2 ^ i) }
-    ensures { result ≡ cond done undone (undone + 2 ^ i) }
+    ensures { result ≡ cond (is_finished ending) undone (undone + 2 ^ i) }
 {
-    if done {
-        return undone;
+    match ending {
+        FileEnding::Finished => undone,
+        FileEnding::Undone | FileEnding::Full => undone + (1u64 << i),
     }
-    undone + (1u64 << i)
+}
+
+// Whether a file found the journal full.
+fn is_full(ending: FileEnding) -> bool
+    ensures { result ≡ is_full ending }
+{
+    matches!(ending, FileEnding::Full)
 }
 
 // How many pairs a file starts with: under rule 1 none, with a map that tells none.
@@ -77,13 +85,13 @@ pub fn next(
     let pairs = begin(map, version, memory.len(), w.pairs);
     let e = one_file(memory, bottom, journal, map, pairs, &words[at..end], f, m);
     let machine = e.machine;
-    let undone = marked(w.undone, i, e.done);
+    let undone = marked(w.undone, i, e.ending);
     Walk {
         machine,
         pairs: e.pairs,
         undone,
         ran: e.ran,
-        full: e.full,
+        full: is_full(e.ending),
         at: end,
     }
 }

@@ -4,6 +4,3 @@ use Rattle.traverse.proofs.walk.marked.Goals as goal
 
 pub overflow_add-result : goal.overflow_add-result
 overflow_add-result c = omega (arith, bit_shifted c.args.i c.requires.0, mask_fits c.args.i c.requires.0 c.requires.1)
-
-pub returns : goal.returns
-returns c = rw (bit_shifted _ c.requires.0, c.if-done.false)

@@ -8,4 +8,4 @@ pub marked-undone-requires : goal.marked-undone-requires
 marked-undone-requires c = (c.requires.number, c.requires.mask)
 
 pub returns : goal.returns
-returns c = goes _ _ _ _ _ c.requires _ c.file_at-f.ensures _ _ _ _ c.begin-pairs.ensures.0 c.begin-pairs.ensures.1 c.one_file-e.ensures c.marked-undone.ensures
+returns c = goes _ _ _ _ _ c.requires _ c.file_at-f.ensures _ _ _ _ c.begin-pairs.ensures.0 c.begin-pairs.ensures.1 c.one_file-e.ensures c.marked-undone.ensures c.is_full.ensures
