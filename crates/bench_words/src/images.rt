@@ -49,7 +49,7 @@ fn make(words: &[u32], start: Machine, image: &mut [u8]) -> Option<usize> {
     write(words, start, 1, image).ok()
 }
 
-// Where no image was made, the ledger of no bytes.
+// Where no image was made, the ledger of no bytes. Those that follow have buffers of other sizes, which are part of their types.
 pub fn show_program(name: &[u8], words: &[u32], start: Machine) {
     let mut image = [0u8; 512];
     let size = make(words, start, &mut image);

@@ -18,7 +18,7 @@ use packed_flags::{packed, unpacked};
 use step::{goes_on, step};
 
 // A run at its end: whether it stopped because the journal is full, and if not, how it ended; its position in the wait list and the number of the
-// journal's pairs.
+// journal's pairs. `full` is no variant of the ending: a run without a journal answers by `ending` alone, and would have to rule it out.
 #[derive(Clone, Copy)]
 pub struct Ended {
     pub full: bool,

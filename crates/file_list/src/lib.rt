@@ -50,7 +50,7 @@ fn files_fit(memory: &[u32], bottom: u32, words: &[u32], files: &[u32]) -> Resul
     demand(sizes(files) == words.len(), Refusal::WordsMismatched)
 }
 
-// Reason 11.
+// Reason 11. A version is a number, since a caller from C may give any, and this reason has its turn after the others.
 fn version_fits(version: u32) -> Result<(), Refusal>
     ensures { result ≡ version_fits version }
 {

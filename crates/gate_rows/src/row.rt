@@ -41,6 +41,7 @@ pub fn work(s: Latches, step: Step, regs: &mut [u32; 8], memory: &mut [u32], bot
 {
     let word = s.instruction;
     let next = step.memory;
+    // A row is a number, as in the words of a state that C lends, where those above 12 are refused in their turn.
     match s.row {
         0 => s.with_address(regs[0], next),
         1 => read_instruction(s, load(&*memory, s.address as usize), step),

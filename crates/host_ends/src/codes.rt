@@ -6,6 +6,7 @@ ghost use Rattle.host_calls.specs.Codes.{run_code, carried_out};
 use model::{Ending, Refusal};
 use refusals::refusal_number;
 
+// Numbers and no enum, since this is what a caller from C is given.
 pub const DONE: u32 = 0;
 
 pub const STOPPED: u32 = 100;

@@ -38,7 +38,7 @@ pub fn machine_lent(words: &[u32], places: usize, due: usize) -> Option<Machine>
     }
 }
 
-// A gate state, likewise.
+// A gate state, likewise. One function over both would take the reading, which asks for so many words, as a closure: longer than the two.
 pub fn state_lent(words: &[u32], places: usize) -> Option<GateState>
     ensures { result ≡ state_lent words.now places }
 {

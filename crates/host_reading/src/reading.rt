@@ -36,11 +36,7 @@ fn row_in(row: u32, left: u32) -> u8
 fn left_in(word: u32) -> u16
     ensures { result ≡ left_in word }
 {
-    if word <= MOST_CLOCKS_LEFT {
-        word as u16
-    } else {
-        MOST_CLOCKS_LEFT as u16
-    }
+    word.min(MOST_CLOCKS_LEFT) as u16
 }
 
 pub fn state_in(words: &[u32]) -> GateState

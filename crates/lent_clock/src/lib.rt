@@ -32,7 +32,7 @@ pub fn clock_lent(
     r.outcome
 }
 
-// The same for callers that hold the state by value: it is lent for the clock.
+// The same for callers that hold the state by value: it is lent for the clock. Both are public, and the theorem of the halted machine is on the former.
 pub fn clock_once(
     memory: &mut [u32],
     bottom: u32,

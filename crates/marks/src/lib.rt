@@ -14,7 +14,7 @@ use search::is_unmarked_known;
 // A map has 49,184 words: a table of 16,384 pages, and 1,024 groups of 32 words to give, behind group 0. Whoever keeps a journal has one on its
 // stack, which takes 192 KiB.
 
-// Whether the journal had no room for a store's pair, and how many pairs it has now.
+// Whether the journal had no room for a store's pair, and how many pairs it has now. No Result: by the pairs a full journal is taken back too.
 #[derive(Clone, Copy)]
 pub struct Noting {
     pub full: bool,

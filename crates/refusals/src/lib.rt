@@ -9,7 +9,7 @@ use model::Refusal;
 // The most words of a memory.
 pub const MOST_WORDS: usize = 16_777_216;
 
-// The papers' number of a refusal.
+// The papers' number of a refusal. Its place is here and not in a `From`, which would have to lie in `model`, where the definition is, away from the limits.
 pub fn refusal_number(why: Refusal) -> u32
     ensures { result ≡ refusal_number why }
 {
