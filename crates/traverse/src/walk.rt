@@ -10,6 +10,7 @@ use model::Machine;
 
 // A traverse so far: the machine, the journal's pairs, bit i for undone file i, the instructions that ran in the last file run, whether its journal
 // was full, and how many words were laid.
+// `full` is asked of an undone traverse alone, which the mask tells; what stands beside it counts either way.
 #[derive(Clone, Copy)]
 pub struct Walk {
     pub machine: Machine,
