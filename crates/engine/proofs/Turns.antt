@@ -1,4 +1,5 @@
 -- The shared loop: where it stands after i instructions, one turn more, and its three ends.
+use Rattle.std.specs.Prelude.{Result, Ok, Err}
 use Prim.Native.Nat.{ℕ, ◌+◌, ◌^◌, ◌≤◌, ◌<◌}
 use mathlib.Core.Path.{◌≡◌, refl, sym, ap, subst₂, ◌∙◌}
 use mathlib.Core.Bool.{Bool, true, false, cond, ◌&&◌, true≢false}
@@ -8,6 +9,7 @@ use native.Mathlib.Numerals.{add-one}
 use native.Mathlib.Omega.{arith}
 use lib.Seq.{set-set, set-get_or}
 use Rattle.model.specs.declared.Machine.{Machine}
+use Rattle.model.specs.declared.Ending.{Ending}
 use Rattle.model.specs.declared.Ending.TheVariants.{Finished}
 use Rattle.model.specs.Words.{word_at, store_word, alterable}
 use Rattle.model.specs.Operands.{in_memory}
@@ -24,7 +26,7 @@ use Rattle.model.proofs.Bounds.{clocks-le}
 use Rattle.step.specs.declared.Stepped.{Stepped}
 use Rattle.step.specs.Keeping.{passed_by, no_room, Keeps}
 use Rattle.step.specs.Steps.{Steps}
-use Rattle.step.proofs.Answers.{runs_on, next-kept, is-stepped, next-regs, next-flags, same_regs, same-words, same-places, same-marks, same-pairs, stops, stores, stores-none}
+use Rattle.step.proofs.Answers.{runs, next-kept, is-stepped, next-regs, next-flags, goes-no-more, same_regs, same-words, same-places, same-marks, same-pairs, stops, stores, stores-none}
 use Rattle.marks.specs.declared.Noting.{Noting}
 use Rattle.marks.specs.Marks.{with_mark, noting_at}
 use Rattle.engine.specs.declared.clocks.Spent.{Spent}
@@ -35,7 +37,7 @@ use Rattle.engine.specs.Engine.{ended_at, ended_of, EngineEnds}
 
 -- ---- one turn of the definition
 
-module _ (board : Board) {regs memory journal map : List ℕ} {pairs flags : ℕ} {regs' memory' journal' map' : List ℕ} {pairs' : ℕ} {s : Stepped}
+module _ (board : Board) {regs memory journal map : List ℕ} {pairs flags : ℕ} {regs' memory' journal' map' : List ℕ} {pairs' : ℕ} {s : Result Stepped Ending}
     (h : Steps regs memory board.bottom journal map pairs flags regs' memory' journal' map' pairs' s) where
   abbrev m : Machine
   m = packed_machine regs flags
@@ -44,13 +46,13 @@ module _ (board : Board) {regs memory journal map : List ℕ} {pairs flags : ℕ
   abbrev words : List ℕ
   words = I.next_memory memory m board.bottom
 
-  advances : (p i c : ℕ) → I.goes_on s.ending ≡ true → s.full ≡ false
-      → {w : Spent} → w ≡ spent_of board.waits (record { clocks = c; position = p }) s.oa s.ob s.stored
-      → I.advance board (run_at m memory p i c) ≡ run_at (packed_machine regs' s.flags) words w.position (i + 1) w.clocks
+  advances : (p i c : ℕ) {x : Stepped} → s ≡ Ok x → x.full ≡ false
+      → {w : Spent} → w ≡ spent_of board.waits (record { clocks = c; position = p }) x.oa x.ob x.stored
+      → I.advance board (run_at m memory p i c) ≡ run_at (packed_machine regs' x.flags) words w.position (i + 1) w.clocks
   unfolding I.advance I.execute
   advances p i c e f g =
       let at = run_at m memory p i c in
-      ap (λ (t : Bool). cond t (I.execute board at) (I.stop (I.next_ending memory m) at)) (runs_on h e)
+      ap (λ (t : Bool). cond t (I.execute board at) (I.stop (I.next_ending memory m) at)) (runs h e)
       ∙ rw (next-regs h e f, next-flags h e f, g, is-stepped h e f, add_assoc c (I.base_clocks memory m))
 
   abbrev alters : Bool
@@ -136,20 +138,20 @@ module _ {memory₀ : List ℕ} {board : Board} {from : ℕ} {journal₀ map₀ 
     unfolding I.interpret
     ran_on = ap (λ (n : ℕ). I.interpret board n (I.begin start memory₀ from)) (add-one i) ∙ ap (I.advance board) a.ran
 
-    module _ {regs' memory' journal' map' : List ℕ} {pairs' : ℕ} {s : Stepped}
+    module _ {regs' memory' journal' map' : List ℕ} {pairs' : ℕ} {s : Result Stepped Ending}
         (h : Steps regs memory board.bottom journal map pairs flags regs' memory' journal' map' pairs' s) where
-      pub stopped : I.goes_on s.ending ≡ false → {e : Ended} → e ≡ ended_at false s.ending (packed_machine regs' flags) position i clocks pairs'
-          → EngineEnds memory₀ board from journal₀ map₀ pairs₀ start count memory' journal' map' e
+      pub stopped : {d : Ending} → s ≡ Err d → {r : Ended} → r ≡ ended_at false d (packed_machine regs' flags) position i clocks pairs'
+          → EngineEnds memory₀ board from journal₀ map₀ pairs₀ start count memory' journal' map' r
       unfolding I.stop
-      stopped e g =
-          let last : I.Run = I.stop s.ending here in
+      stopped {d} e g =
+          let last : I.Run = I.stop d here in
           let one = next ∙ kept-none board here last journal map pairs (stores-none h board position i clocks e) (stops h board position i clocks e) in
           ends (kept_at last journal map pairs)
-          (kept_on board first' (kept_at last journal map pairs) (omega arith) one (stopped-kept board last journal map pairs e))
+          (kept_on board first' (kept_at last journal map pairs) (omega arith) one (stopped-kept board last journal map pairs (goes-no-more h e)))
           (rw (g, same_regs h e, same-pairs h e)) (same-words h e) (same-places h e) (same-marks h e)
 
       -- the instruction ran, and its store was kept
-      module _ (e : I.goes_on s.ending ≡ true) where
+      module _ {x : Stepped} (e : s ≡ Ok x) where
         abbrev b : Machine
         b = packed_machine regs flags
 
@@ -158,8 +160,8 @@ module _ {memory₀ : List ℕ} {board : Board} {from : ℕ} {journal₀ map₀ 
 
         -- as it was kept: it goes on, or the journal is full
         record Goes (after : I.Run) : Type 0 where
-          onward : s.full ≡ false → (keep_run board (i + 1) first' ≡ kept_at after journal' map' pairs') × (memory' ≡ words')
-          ended : s.full ≡ true
+          onward : x.full ≡ false → (keep_run board (i + 1) first' ≡ kept_at after journal' map' pairs') × (memory' ≡ words')
+          ended : x.full ≡ true
               → (keep_run board (i + 1) first' ≡ filled here journal map pairs) × (memory' ≡ memory) × (journal' ≡ journal) × (map' ≡ map) × (pairs' ≡ pairs)
 
         abbrev full_of : Noting → Bool
@@ -169,7 +171,7 @@ module _ {memory₀ : List ℕ} {board : Board} {from : ℕ} {journal₀ map₀ 
         pairs_of n = n.pairs
 
         -- no store
-        passes : (after : I.Run) {a f : ℕ} → Keeps words' journal map pairs false a f memory' journal' map' (noting_at s.full pairs')
+        passes : (after : I.Run) {a f : ℕ} → Keeps words' journal map pairs false a f memory' journal' map' (noting_at x.full pairs')
             → keep_one board (kept_at here journal map pairs) ≡ kept_at after journal map pairs → Goes after
         passes after g q =
             record {
@@ -178,13 +180,13 @@ module _ {memory₀ : List ℕ} {board : Board} {from : ℕ} {journal₀ map₀ 
             }
 
         -- a store: known, without room, noted
-        stored : (p : Pair) → Keeps words' journal map pairs true p.address p.former memory' journal' map' (noting_at s.full pairs') → (after : I.Run)
+        stored : (p : Pair) → Keeps words' journal map pairs true p.address p.former memory' journal' map' (noting_at x.full pairs') → (after : I.Run)
             → keep_run board (i + 1) first'
             ≡ cond (passed_by map journal pairs p.address) (kept_at after journal map pairs)
             (cond (no_room journal pairs) (filled here journal map pairs)
             (kept_at after (noted journal pairs p.address p.former) (with_mark map p.address) (pairs + 1)))
             → store_word words' p.address p.former ≡ memory
-            → (x : Bool) → passed_by map journal pairs p.address ≡ x → (y : Bool) → no_room journal pairs ≡ y → Goes after
+            → (v : Bool) → passed_by map journal pairs p.address ≡ v → (y : Bool) → no_room journal pairs ≡ y → Goes after
         stored p g after kept undo true c y d =
             record {
               onward = λ f. (rw c at kept ∙ rw (rw c at g.places, rw c at g.marks, ap pairs_of (rw c at g.result)), rw c at g.words);
@@ -212,19 +214,19 @@ module _ {memory₀ : List ℕ} {board : Board} {from : ℕ} {journal₀ map₀ 
                 let kept = next ∙ kept_store board here after journal map pairs p (stores h board position i clocks e ∙ rw q) n in
                 stored p (rw q at (next-kept h e)) after kept (back board h q) (passed_by map journal pairs p.address) refl (no_room journal pairs) refl
 
-      pub turn : I.goes_on s.ending ≡ true → s.full ≡ false
-          → {w : Spent} → w ≡ spent_of board.waits (record { clocks = clocks; position = position }) s.oa s.ob s.stored
-          → At memory₀ board from journal₀ map₀ pairs₀ start count memory' journal' map' regs' s.flags w.position w.clocks pairs' (i + 1)
-      turn e f {w} d =
+      pub turn : {x : Stepped} → s ≡ Ok x → x.full ≡ false
+          → {w : Spent} → w ≡ spent_of board.waits (record { clocks = clocks; position = position }) x.oa x.ob x.stored
+          → At memory₀ board from journal₀ map₀ pairs₀ start count memory' journal' map' regs' x.flags w.position w.clocks pairs' (i + 1)
+      turn {x} e f {w} d =
           let q = advances board h position i clocks e f d in
-          let (kept, same) = (goes e (run_at (packed_machine regs' s.flags) (words board h) w.position (i + 1) w.clocks) q).onward f in
+          let (kept, same) = (goes e (run_at (packed_machine regs' x.flags) (words board h) w.position (i + 1) w.clocks) q).onward f in
           record {
             state = kept ∙ rw same;
             ran = ran_on ∙ q ∙ rw same;
             fits = rw d (after-fits board.waits _ position a.fits);
           }
 
-      pub full : I.goes_on s.ending ≡ true → s.full ≡ true
+      pub full : {x : Stepped} → s ≡ Ok x → x.full ≡ true
           → {m : Machine} → m ≡ start → {d : Ended} → d ≡ ended_at true Finished m position i clocks pairs' → EngineEnds memory₀ board from journal₀ map₀ pairs₀ start count memory' journal' map' d
       full e f is q =
           let (kept, same, places, marks, counted) = (goes e (I.advance board here) refl).ended f in

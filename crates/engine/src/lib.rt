@@ -100,11 +100,10 @@ pub fn engine(
     };
     let mut pairs = noted;
     for i in 0..count {
-        let s = step(&mut regs, memory, bottom, journal, map, &mut pairs, flags);
-        let ending = s.ending;
-        if !goes_on(ending) {
-            return run_end(ending, regs, flags, spent, i, pairs);
-        }
+        let s = match step(&mut regs, memory, bottom, journal, map, &mut pairs, flags) {
+            Err(ending) => return run_end(ending, regs, flags, spent, i, pairs),
+            Ok(s) => s,
+        };
         if s.full {
             return full_end(start, spent, i, pairs);
         }

@@ -1,13 +1,11 @@
 -- One instruction as the code does it in parts, and as a whole: what each part leaves, from the definitions of model. Document 01, "Machine
 -- and instruction word", the order (i) to (vi); CR 5, CR 6 and CR 11.
 -- Flags go in and out packed; the pair of a store that can alter memory is kept in a journal (document 01, "File run and journal"; CR 11).
-use Rattle.std.specs.Prelude.{ℕ, ◌≡◌, Bool, false, cond, ◌&&◌, List}
+use Rattle.std.specs.Prelude.{ℕ, ◌≡◌, Bool, cond, ◌&&◌, List, Option, Some, None, Result, Ok, Err}
 use Rattle.arithmetic.specs.declared.AluOut.{AluOut}
 use Rattle.model.specs.declared.Machine.{Machine}
 use Rattle.model.specs.declared.Operand.{Operand}
-use Rattle.model.specs.declared.Operand.TheVariants.{Direct}
 use Rattle.model.specs.declared.Ending.{Ending}
-use Rattle.model.specs.declared.Ending.TheVariants.{Finished}
 use Rattle.model.specs.Words.{present, alterable, store_above}
 use Rattle.model.specs.Operands.{in_memory, step_down, step_up, register_word, operand_present, operand_value, store_in_register}
 use Rattle.model.specs.Alu.{alu, flags_after, stores}
@@ -20,16 +18,12 @@ use Rattle.step.specs.declared.take.Taken.{Taken}
 use Rattle.step.specs.declared.fetch.Fetched.{Fetched}
 use Rattle.step.specs.declared.Stepped.{Stepped}
 
--- an operand, with the registers as stepped down for it
-abbrev pub taken_of : Operand → List ℕ → List ℕ → Taken
+-- an operand, with the registers as stepped down for it, where what it addresses is there
+abbrev pub taken_of : Operand → List ℕ → List ℕ → Option Taken
 taken_of o regs memory =
-    record {
-      present = operand_present o regs memory;
-      word = register_word o regs;
-      value = operand_value o regs memory;
-    }
+    cond (operand_present o regs memory) (Some (record { word = register_word o regs; value = operand_value o regs memory })) None
 
-pub record Takes (o : Operand) (regs memory regs' : List ℕ) (t : Taken) : Type 0 where
+pub record Takes (o : Operand) (regs memory regs' : List ℕ) (t : Option Taken) : Type 0 where
   pub result : t ≡ taken_of o (step_down o regs) memory
   pub registers : regs' ≡ cond (operand_present o (step_down o regs) memory) (step_down o regs) regs
 
@@ -38,15 +32,10 @@ pub record Takes (o : Operand) (regs memory regs' : List ℕ) (t : Taken) : Type
 abbrev pub bare : List ℕ → Machine
 bare regs = machine_with regs no_flags
 
--- nothing is taken of an instruction that does not run
-abbrev pub nothing : Ending → Fetched
-nothing e = record { ending = e; word = 0; oa = Direct 0; ob = Direct 0; a = 0; b = 0; address = 0 }
-
 abbrev pub fetched_of : List ℕ → List ℕ → Fetched
 fetched_of regs memory =
     let m = bare regs in
     record {
-      ending = Finished;
       word = instruction memory m;
       oa = op_a memory m;
       ob = op_b memory m;
@@ -55,8 +44,9 @@ fetched_of regs memory =
       address = address_b memory m;
     }
 
-pub record Fetches (regs memory regs' : List ℕ) (f : Fetched) : Type 0 where
-  pub result : f ≡ cond (next_runs memory (bare regs)) (fetched_of regs memory) (nothing (next_ending memory (bare regs)))
+-- where the instruction does not run, why not
+pub record Fetches (regs memory regs' : List ℕ) (f : Result Fetched Ending) : Type 0 where
+  pub result : f ≡ cond (next_runs memory (bare regs)) (Ok (fetched_of regs memory)) (Err (next_ending memory (bare regs)))
   pub registers : regs' ≡ cond (next_runs memory (bare regs)) (regs_b memory (bare regs)) regs
 
 -- ---- (iv) to (vi)
@@ -86,7 +76,7 @@ stored_of flags f = stores f.word (flags_of flags)
 -- an instruction that ran, or whose store the journal had no room for
 abbrev pub stepped_with : (flags : ℕ) → (oa ob : Operand) → (stored full : Bool) → Stepped
 stepped_with flags oa ob stored full =
-    record { ending = Finished; flags = flags; oa = oa; ob = ob; stored = stored; full = full }
+    record { flags = flags; oa = oa; ob = ob; stored = stored; full = full }
 
 -- where the journal is full, the flags stay, and the registers are not stepped up
 abbrev pub finished_of : (flags : ℕ) → Fetched → (full : Bool) → Stepped
@@ -105,9 +95,6 @@ pub record Finishes (regs memory : List ℕ) (bottom : ℕ) (journal map : List 
 
 -- ---- one instruction
 
-abbrev pub stopped_at : Ending → (flags : ℕ) → Stepped
-stopped_at e flags = record { ending = e; flags = flags; oa = Direct 0; ob = Direct 0; stored = false; full = false }
-
 -- whether the journal has no room for its store
 abbrev pub finds_full : List ℕ → Machine → (bottom : ℕ) → (journal map : List ℕ) → (pairs : ℕ) → Bool
 finds_full memory m bottom journal map pairs = (kept_noting journal map pairs (alters_memory memory m bottom) (address_b memory m)).full
@@ -119,8 +106,8 @@ stepped_of memory m flags full =
 abbrev pub stepped_registers : List ℕ → Machine → (full : Bool) → List ℕ
 stepped_registers memory m full = cond full (regs_stored memory m) (next_machine memory m).regs
 
--- what it leaves of machine, memory, journal and map; where it does not run they stay
-pub record Steps (regs memory : List ℕ) (bottom : ℕ) (journal map : List ℕ) (pairs flags : ℕ) (regs' memory' journal' map' : List ℕ) (pairs' : ℕ) (s : Stepped) : Type 0 where
-  pub result : s ≡ cond (next_runs memory (packed_machine regs flags)) (stepped_of memory (packed_machine regs flags) flags (finds_full memory (packed_machine regs flags) bottom journal map pairs)) (stopped_at (next_ending memory (packed_machine regs flags)) flags)
+-- what it leaves of machine, memory, journal and map; where it does not run, why not, and they stay
+pub record Steps (regs memory : List ℕ) (bottom : ℕ) (journal map : List ℕ) (pairs flags : ℕ) (regs' memory' journal' map' : List ℕ) (pairs' : ℕ) (s : Result Stepped Ending) : Type 0 where
+  pub result : s ≡ cond (next_runs memory (packed_machine regs flags)) (Ok (stepped_of memory (packed_machine regs flags) flags (finds_full memory (packed_machine regs flags) bottom journal map pairs))) (Err (next_ending memory (packed_machine regs flags)))
   pub registers : regs' ≡ cond (next_runs memory (packed_machine regs flags)) (stepped_registers memory (packed_machine regs flags) (finds_full memory (packed_machine regs flags) bottom journal map pairs)) regs
-  pub kept : Keeps (cond (next_runs memory (packed_machine regs flags)) (next_memory memory (packed_machine regs flags) bottom) memory) journal map pairs (next_runs memory (packed_machine regs flags) && alters_memory memory (packed_machine regs flags) bottom) (address_b memory (packed_machine regs flags)) (value_b memory (packed_machine regs flags)) memory' journal' map' (noting_at s.full pairs')
+  pub kept : Keeps (cond (next_runs memory (packed_machine regs flags)) (next_memory memory (packed_machine regs flags) bottom) memory) journal map pairs (next_runs memory (packed_machine regs flags) && alters_memory memory (packed_machine regs flags) bottom) (address_b memory (packed_machine regs flags)) (value_b memory (packed_machine regs flags)) memory' journal' map' (noting_at (next_runs memory (packed_machine regs flags) && finds_full memory (packed_machine regs flags) bottom journal map pairs) pairs')

@@ -1,28 +1,12 @@
 // Compute, set flags, store, step up: (iv) to (vi).
-ghost use Rattle.std.specs.Prelude.{◌≡◌};
-ghost use Rattle.step.specs.Steps.{stepped_with, Finishes};
+ghost use Rattle.step.specs.Steps.{Finishes};
 
 use super::Stepped;
 use super::fetch::Fetched;
 use super::put::put;
 use super::unit::unit_of;
 use effects::{flags_after_packed, stores};
-use model::{Ending, Operand};
 use registers::step_up;
-
-// An instruction that ran, or whose store the journal had no room for.
-fn stepped(flags: u32, oa: Operand, ob: Operand, stored: bool, full: bool) -> Stepped
-    ensures { result ≡ stepped_with flags oa ob stored full }
-{
-    Stepped {
-        ending: Ending::Finished,
-        flags,
-        oa,
-        ob,
-        stored,
-        full,
-    }
-}
 
 // The storing condition is read from the old flags, and the new ones are made before the store, so that little is carried past it.
 pub fn finish(
@@ -48,9 +32,21 @@ pub fn finish(
     );
     // Told before the steps up, and with the old flags, which makes the loop quicker; the machine is the start's in the end.
     if full {
-        return stepped(flags, oa, ob, stored, true);
+        return Stepped {
+            flags,
+            oa,
+            ob,
+            stored,
+            full: true,
+        };
     }
     step_up(oa, regs);
     step_up(ob, regs);
-    stepped(after, oa, ob, stored, false)
+    Stepped {
+        flags: after,
+        oa,
+        ob,
+        stored,
+        full: false,
+    }
 }

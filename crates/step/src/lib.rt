@@ -10,7 +10,7 @@ mod unit;
 
 ghost use Rattle.std.specs.Prelude.{◌≡◌};
 ghost use Rattle.model.specs.Interpreter.{goes_on};
-ghost use Rattle.step.specs.Steps.{stopped_at, Steps};
+ghost use Rattle.step.specs.Steps.{Steps};
 
 use fetch::fetch;
 use finish::finish;
@@ -18,10 +18,8 @@ use model::{Ending, Operand};
 
 // What one instruction leaves: the flags, packed; its operands as decoded and whether its result was stored, which decide its clocks and
 // accesses; whether the journal had no room for its store. Where it had none, memory and journal are as before, and the registers have gone on.
-// Where it did not run, `ending` says why, and nothing has changed.
 #[derive(Clone, Copy)]
 pub struct Stepped {
-    pub ending: Ending,
     pub flags: u32,
     pub oa: Operand,
     pub ob: Operand,
@@ -36,21 +34,8 @@ pub fn goes_on(ending: Ending) -> bool
     matches!(ending, Ending::Finished)
 }
 
-fn stopped(ending: Ending, flags: u32) -> Stepped
-    ensures { result ≡ stopped_at ending flags }
-{
-    Stepped {
-        ending,
-        flags,
-        oa: Operand::Direct(0),
-        ob: Operand::Direct(0),
-        stored: false,
-        full: false,
-    }
-}
-
 // The pair of a store that can alter memory is noted where its address has none yet: the journal's pairs are counted in `pairs`, and the map tells
-// them. A run without a journal lends a map of no words.
+// them. A run without a journal lends a map of no words. Where the instruction does not run, the ending says why, and nothing has changed.
 pub fn step(
     regs: &mut [u32; 8],
     memory: &mut [u32],
@@ -59,13 +44,9 @@ pub fn step(
     map: &mut [u32],
     pairs: &mut usize,
     flags: u32,
-) -> Stepped
+) -> Result<Stepped, Ending>
     ensures { Steps regs.old memory.old bottom journal.old map.old pairs.old flags regs.new memory.new journal.new map.new pairs.new result }
 {
-    let f = fetch(regs, &*memory);
-    let ending = f.ending;
-    if goes_on(ending) {
-        return finish(regs, memory, bottom, journal, map, pairs, flags, f);
-    }
-    stopped(ending, flags)
+    let f = fetch(regs, &*memory)?;
+    Ok(finish(regs, memory, bottom, journal, map, pairs, flags, f))
 }

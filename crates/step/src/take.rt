@@ -3,46 +3,37 @@ ghost use Rattle.std.specs.Prelude.{◌≡◌};
 ghost use Rattle.step.specs.Steps.{taken_of, Takes};
 
 use model::Operand;
-use operands::{in_memory, load};
+use operands::in_memory;
 use registers::{register_word, set_register, step_down};
 
-// Whether what the operand addresses is there, its register's word, its value.
+// Its register's word, its value.
 #[derive(Clone, Copy)]
 pub struct Taken {
-    pub present: bool,
     pub word: u32,
     pub value: u32,
 }
 
-fn look(o: Operand, regs: &[u32; 8], memory: &[u32]) -> Taken
+// None where what the operand addresses is absent.
+fn look(o: Operand, regs: &[u32; 8], memory: &[u32]) -> Option<Taken>
     ensures { result ≡ taken_of o regs.now memory.now }
 {
     let word = register_word(o, regs);
     if in_memory(o) {
-        let i = word as usize;
-        return Taken {
-            present: i < memory.len(),
-            word,
-            value: load(memory, i),
-        };
+        let &value = memory.get(word as usize)?;
+        return Some(Taken { word, value });
     }
-    Taken {
-        present: true,
-        word,
-        value: word,
-    }
+    Some(Taken { word, value: word })
 }
 
 // Steps an operand's register down and takes the operand. Where what it addresses is absent, the register is put back.
-pub fn take(o: Operand, regs: &mut [u32; 8], memory: &[u32]) -> Taken
+pub fn take(o: Operand, regs: &mut [u32; 8], memory: &[u32]) -> Option<Taken>
     ensures { Takes o regs.old memory.now regs.new result }
 {
     let old = register_word(o, &*regs);
     step_down(o, regs);
     let t = look(o, &*regs, memory);
-    if t.present {
-        return t;
+    if t.is_none() {
+        set_register(o, old, regs);
     }
-    set_register(o, old, regs);
     t
 }

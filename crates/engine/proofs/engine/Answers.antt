@@ -1,5 +1,5 @@
 use Prim.Native.Nat.{◌^◌, ◌<◌}
-use mathlib.Core.Path.{sym, ◌∙◌}
+use mathlib.Core.Path.{sym}
 use native.Mathlib.Omega.{arith}
 use Rattle.model.specs.Waits.{wait_at}
 use Rattle.engine.proofs.Spending.{begin-fits}
@@ -9,18 +9,15 @@ use Rattle.engine.proofs.engine.Goals as goal
 pub loop-i-init : goal.loop-i-init
 loop-i-init c = begins (begin-fits _ _ c.begins_at.ensures)
 
-pub returns-then-not-goes_on : goal.returns-then-not-goes_on
-returns-then-not-goes_on c =
+pub returns-in-Err : goal.returns-in-Err
+returns-in-Err c =
     from_start c.packed-flags.ensures c.begins_at.ensures
-    (stopped c.loop-i.invariant c.loop-i-test.true c.step-s.ensures
-    (sym c.goes_on.ensures ∙ c.if-not-goes_on.true) c.run_end.ensures)
+    (stopped c.loop-i.invariant c.loop-i-test.true c.step.ensures c.in-Err.is c.run_end.ensures)
 
 pub returns-then-s : goal.returns-then-s
 returns-then-s c =
     from_start c.packed-flags.ensures c.begins_at.ensures
-    (full c.loop-i.invariant c.loop-i-test.true c.step-s.ensures
-    (sym c.goes_on.ensures ∙ c.if-not-goes_on.false) c.if-s.true
-    (sym (same_start c.packed-flags.ensures)) c.full_end.ensures)
+    (full c.loop-i.invariant c.loop-i-test.true c.step.ensures c.in-Ok.is c.if-s.true (sym (same_start c.packed-flags.ensures)) c.full_end.ensures)
 
 pub clocked-spent-requires-clause-few : goal.clocked-spent-requires-clause-few
 unfolding wait_at
@@ -29,9 +26,7 @@ clocked-spent-requires-clause-few c =
     clocks-fit c.loop-i.invariant c.loop-i-test.true (λ p. omega (arith, c.type_inv.waits p)) few-at
 
 pub loop-i-preserved : goal.loop-i-preserved
-loop-i-preserved c =
-    turn c.loop-i.invariant c.loop-i-test.true c.step-s.ensures
-    (sym c.goes_on.ensures ∙ c.if-not-goes_on.false) c.if-s.false c.clocked-spent.ensures
+loop-i-preserved c = turn c.loop-i.invariant c.loop-i-test.true c.step.ensures c.in-Ok.is c.if-s.false c.clocked-spent.ensures
 
 pub returns : goal.returns
 returns c =

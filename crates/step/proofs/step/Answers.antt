@@ -1,8 +1,8 @@
-use Rattle.step.proofs.Steps.{stepped-all, step-stops}
+use Rattle.step.proofs.Steps.{leaves, stepped-all, step-stops}
 use Rattle.step.proofs.step.Goals as goal
 
-pub returns-then-goes_on : goal.returns-then-goes_on
-returns-then-goes_on c = stepped-all c.fetch-f.ensures c.goes_on.ensures c.if-goes_on.true c.finish.ensures
+pub returns-in_err-f : goal.returns-in_err-f
+returns-in_err-f c = step-stops c.fetch.ensures c.in_err-f.was (leaves _ c.from_residual.ensures.1)
 
 pub returns : goal.returns
-returns c = step-stops c.fetch-f.ensures c.goes_on.ensures c.if-goes_on.false c.stopped.ensures
+returns c = stepped-all c.fetch.ensures c.in_ok-f.was c.finish.ensures
