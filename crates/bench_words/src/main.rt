@@ -1,5 +1,5 @@
 // Ledgers of document 01's example, of its bench words that have no star, and of images that show one rule each:
-// every refusal of an image, both endings, a program that overwrites itself, the largest image and the longest ledger.
+// every refusal of an image, endings, a program that overwrites itself, the largest image and the longest ledger.
 // Each function shows a few, as the proof of a long one takes long.
 #![tactic(auto)]
 

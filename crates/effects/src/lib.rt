@@ -32,7 +32,8 @@ pub fn unit_operation(word: u32) -> u8
     if is_move(word) { 0 } else { operation_of(word) }
 }
 
-// The permitted flags from the unit's answer, the others as they were; packed. A permit stands at its flag's bit.
+// The permitted flags from the unit's answer, the others as they were; packed. A permit stands at its flag's bit. The unit's flags are named one by one: a
+// `From` would have to lie in `model`, for this place and one of a test program.
 pub fn flags_after_packed(word: u32, flags: u32, out: AluOut) -> u32
     ensures { result ≡ packed_of (flags_after word (flags_of flags) out) }
 {

@@ -1,4 +1,4 @@
-// A gate state taken apart into registers and latches, and put together again.
+// A gate state taken apart into registers and latches, and put together again: functions and no `From`, since both types are other crates'.
 ghost use Rattle.std.specs.Prelude.{◌≡◌};
 ghost use Rattle.gate_rows.specs.Work.{state_of};
 

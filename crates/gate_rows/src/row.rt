@@ -1,4 +1,4 @@
-// The work of a row, one function for each kind of work.
+// The work of a row.
 ghost use Rattle.std.specs.Prelude.{◌≡◌, cond};
 ghost use Rattle.model.specs.GateMachine.{with_row, with_instruction, with_a, with_b, prepare};
 ghost use Rattle.gate_rows.specs.Work.{state_of, Becomes, read_row, Works};

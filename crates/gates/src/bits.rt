@@ -1,4 +1,4 @@
-// Words and single bits; rows of bits read from the top down.
+// Words and single bits; what a row of bits is as a word, and whether one of them is 1.
 ghost use Rattle.std.specs.Prelude.{◌≡◌, false, ◌+◌, ◌<◌, get_or};
 ghost use Rattle.gate_network.specs.Gates.{value, bits_of, any_of};
 

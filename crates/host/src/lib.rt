@@ -121,7 +121,7 @@ pub extern "C" fn fm8502_image_read(
 ) -> u32
     ensures { ReadCall bytes.now memory.old machine.old res.old memory.new machine.new res.new result }
 {
-    let Some(start) = machine_lent(&*machine, res.len(), TWO_PLACES) else {
+    let Some(_) = machine_lent(&*machine, res.len(), TWO_PLACES) else {
         return MISFIT;
     };
     let r = image_reader::read(bytes, memory);

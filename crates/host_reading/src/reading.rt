@@ -1,4 +1,4 @@
-// A machine and a gate state, read from lent words.
+// A machine and a gate state, read from lent words: functions and no `From`, since the types are another crate's, and of so many words.
 ghost use Rattle.std.specs.Prelude.{◌≡◌, ◌≤◌, length};
 ghost use Rattle.host_reading.specs.Layout.{machine_size, state_size, row_in, left_in, machine_in, state_in};
 

@@ -1,4 +1,4 @@
-// Images of the FM8502: the answers of the writer and of the reader. specs/ says what an image is.
+// Images of the FM8502: what a reader answers, and the leaves of the format. specs/ says what an image is.
 #![tactic(auto)]
 
 ghost use Rattle.std.specs.Prelude.{◌≡◌, min};

@@ -1,5 +1,5 @@
 // The four flags as the bits of one number, in the order in which an instruction word permits them. One number is quicker to carry through
-// a run than four truths.
+// a run than four truths. Functions and no `From`, since `Flags` is another crate's.
 ghost use Rattle.std.specs.Prelude.{◌≡◌, ◌<◌};
 ghost use Rattle.model.specs.Words.{bit};
 ghost use Rattle.model.specs.Packed.{packed_of, flags_of};

@@ -3,7 +3,7 @@
 #![tactic(auto)]
 
 ghost use Rattle.std.specs.Prelude.{◌≡◌};
-ghost use Rattle.model.specs.Words.{inc, dec};
+ghost use Rattle.model.specs.Words.{inc};
 ghost use Rattle.model.specs.Operands.{register_of, stepped, step_down, step_up, register_word, set_register};
 
 use model::Operand;

@@ -9,7 +9,7 @@ use marks::forget;
 use model::Machine;
 
 // A traverse so far: the machine, the journal's pairs, bit i for undone file i, the instructions that ran in the last file run, whether its journal
-// was full, and how many words were laid.
+// was full, and how many words the files so far have.
 // `full` is asked of an undone traverse alone, which the mask tells; what stands beside it counts either way.
 #[derive(Clone, Copy)]
 pub struct Walk {
