@@ -18,11 +18,12 @@ fn look(o: Operand, regs: &[u32; 8], memory: &[u32]) -> Option<Taken>
     ensures { result ≡ taken_of o regs.now memory.now }
 {
     let word = register_word(o, regs);
-    if in_memory(o) {
-        let &value = memory.get(word as usize)?;
-        return Some(Taken { word, value });
-    }
-    Some(Taken { word, value: word })
+    let value = if in_memory(o) {
+        *memory.get(word as usize)?
+    } else {
+        word
+    };
+    Some(Taken { word, value })
 }
 
 // Steps an operand's register down and takes the operand. Where what it addresses is absent, the register is put back.
