@@ -1,5 +1,4 @@
 -- What `report` answers: for an output that is too short, for a bad image, and for one that is run.
-use Rattle.image.specs.declared.LoadedImage.{LoadedImage}
 use Prim.Native.Nat.{ℕ, ◌≤◌, ◌<◌}
 use mathlib.Core.Path.{◌≡◌, refl, sym, ap, ◌∙◌}
 use mathlib.Core.Bool.{Bool, true, false, cond}

@@ -1,35 +1,41 @@
 -- Parts of a text put in one after the other are put in together.
-use Prim.Native.Nat.{ℕ, ◌+◌, ◌≤◌}
-use mathlib.Core.Path.{ap, ◌∙◌}
+use Prim.Native.Nat.{ℕ, ◌+◌}
+use mathlib.Core.Path.{◌≡◌, ap, ◌∙◌}
 use mathlib.Core.List.{List, [], ◌∷◌, ◌++◌}
 use native.Mathlib.Omega.{arith}
-use lib.ListN.{length, length-append}
+use lib.ListN.{length-append}
 use Rattle.model.proofs.Stores.{sets-append}
 use Rattle.text.specs.Text.{Puts}
-use Rattle.ledger_text.specs.Parts.{Extends, ExtendsBy}
+use Rattle.ledger_text.specs.declared.writer.Writer.{Writer}
+use Rattle.ledger_text.specs.Parts.{Extends, Writes}
 
-module _ {out : List ℕ} {at : ℕ} where
-  -- what a call of the crate text leaves
-  pub put : {text out' : List ℕ} {size : ℕ} → Puts out at text out' size → Extends out at text out' (at + size)
-  put h = record { buffer = h.buffer; place = ap (λ (k : ℕ). at + k) h.size }
-
-  infixl 5 ◌⊳◌
-  pub ◌⊳◌ : {a b out₁ out₂ : List ℕ} {p q : ℕ} → Extends out at a out₁ p → Extends out₁ p b out₂ q → Extends out at (a ++ b) out₂ q
-  ◌⊳◌ {a} {b} h k =
-      record {
-        buffer = k.buffer ∙ rw (h.buffer, h.place) (sets-append out at a b);
-        place = omega (arith, h.place, k.place, length-append a b);
-      }
-
-  pub extends_by : (most : ℕ) {text out' : List ℕ} {q : ℕ} → length text ≤ most → Extends out at text out' q → ExtendsBy most out at text out' q
-  extends_by most le h = record { whole = h; near = omega (arith, h.place) }
+infixl 5 ◌⊳◌
+pub ◌⊳◌ : {a b : List ℕ} {w w₁ w₂ : Writer} → Writes w a w₁ → Writes w₁ b w₂ → Writes w (a ++ b) w₂
+◌⊳◌ {a} {b} {w} h k =
+    record {
+      put =
+          record {
+            buffer = k.put.buffer ∙ rw (h.put.buffer, h.put.place) (sets-append w.out.now w.at a b);
+            place = omega (arith, h.put.place, k.put.place, length-append a b);
+          };
+      same_reference = k.same_reference ∙ h.same_reference;
+    }
 
 -- a figure, and the byte that ends it
-pub figure_put : {out : List ℕ} {at : ℕ} (most : ℕ) {end : ℕ} {figure out₁ out₂ : List ℕ} {size next : ℕ} → length figure ≤ most
-    → Puts out at figure out₁ size → Extends out₁ (at + size) (end ∷ []) out₂ next
-    → ExtendsBy (most + 1) out at (figure ++ end ∷ []) out₂ next
-figure_put most le h k = extends_by (most + 1) (rw length-append (omega arith)) (put h ⊳ k)
+pub figure_put : {w w₁ w₂ : Writer} {end size : ℕ} {figure : List ℕ} → Puts w.out.now w.at figure w₁.out.now size
+    → w₁.at ≡ w.at + size → w₁.out.ghost_name ≡ w.out.ghost_name → Writes w₁ (end ∷ []) w₂ → Writes w (figure ++ end ∷ []) w₂
+figure_put {w} h place same k =
+    record {
+      put = record { buffer = h.buffer; place = place ∙ ap (λ (n : ℕ). w.at + n) h.size };
+      same_reference = same;
+    }
+    ⊳ k
 
--- a text at the buffer's start
-pub start : {out text out' : List ℕ} {size : ℕ} → Puts out 0 text out' size → Extends out 0 text out' size
-start h = record { buffer = h.buffer; place = omega (arith, h.size) }
+-- what a writer leaves that began at the start of a buffer
+pub written : {out out' text : List ℕ} {size : ℕ} {w w' : Writer} → (w.out.now ≡ out) × (w.at ≡ 0) → Writes w text w'
+    → out' ≡ w'.out.now → size ≡ w'.at → Extends out 0 text out' size
+written begun h left told =
+    record {
+      buffer = left ∙ rw (begun.0, begun.1) at h.put.buffer;
+      place = told ∙ rw begun.1 at h.put.place;
+    }

@@ -17,43 +17,44 @@ use Rattle.interpreter.specs.Calls.{run_result, Runs}
 use Rattle.interpreter.proofs.Answers.{returned, left_in}
 use Rattle.ledger_lines.specs.Lines.{most_lines, ledger_board, line, lines, heading, ending_text, ending_word}
 use Rattle.ledger_lines.proofs.Lengths.{clocks-small, lines-length}
-use Rattle.ledger_text.specs.Parts.{Extends, ending_of, RunPuts}
-use Rattle.ledger_text.proofs.Parts.{◌⊳◌}
+use Rattle.ledger_text.specs.declared.writer.Writer.{Writer}
+use Rattle.ledger_text.specs.Parts.{Writes, ending_of, RunPuts}
+use Rattle.ledger_text.proofs.Parts.{◌⊳◌, written}
 use Rattle.ledger_text.proofs.Runs.{one_run, stops, next-run, next-lines, stopped-run, stopped-text, finished-text}
 
--- ---- the loop, from a buffer that holds the heading
+-- ---- the loop, from a writer that put the heading in
 
-module _ (start : Machine) (memory₀ out₀ : List ℕ) (at₀ : ℕ) where
+module _ (start : Machine) (memory₀ : List ℕ) (writer₀ : Writer) where
   abbrev first : Run
   first = begin start memory₀ 0
 
   -- after so many lines
-  pub record At (memory out : List ℕ) (machine : Machine) (at ran clocks : ℕ) : Type 0 where
+  pub record At (memory : List ℕ) (writer : Writer) (machine : Machine) (ran clocks : ℕ) : Type 0 where
     pub state : interpret ledger_board ran first ≡ run_at machine memory 0 ran clocks
-    pub text : Extends out₀ at₀ (lines ran first) out at
+    pub told : Writes writer₀ (lines ran first) writer
     pub below : ran ≤ most_lines
     pub words : length memory ≡ length memory₀
-    pub room : length out ≡ length out₀
 
-module _ {start : Machine} {memory₀ out₀ : List ℕ} {at₀ : ℕ} where
-  pub begins : At start memory₀ out₀ at₀ memory₀ out₀ start at₀ 0 0
+module _ {start : Machine} {memory₀ : List ℕ} {writer₀ : Writer} where
+  pub begins : At start memory₀ writer₀ memory₀ writer₀ start 0 0
   unfolding interpret lines
   begins =
       record {
         state = refl;
-        text = record { buffer = refl; place = omega arith };
+        told = record { put = record { buffer = refl; place = omega arith }; same_reference = refl };
         below = omega arith;
         words = refl;
-        room = refl;
       }
 
-  module _ {memory out : List ℕ} {machine : Machine} {at ran clocks : ℕ} (a : At start memory₀ out₀ at₀ memory out machine at ran clocks) where
+  module _ {memory : List ℕ} {writer : Writer} {machine : Machine} {ran clocks : ℕ} (a : At start memory₀ writer₀ memory writer machine ran clocks) where
     abbrev run₀ : Run
     run₀ = begin start memory₀ 0
 
     -- the lines are at most 480 bytes, after a heading of at most 25
-    pub near_start : at₀ ≤ 25 → at < 2 ^ 16
-    near_start h = omega (arith, a.text.place, lines-length start memory₀ ran (omega (arith, a.below)), a.below)
+    pub near_start : {w : Writer} → w.at ≡ 0 → Writes w heading writer₀ → writer.at < 2 ^ 16
+    unfolding heading
+    near_start begun top =
+        omega (arith, begun, top.put.place, a.told.put.place, lines-length start memory₀ ran (omega (arith, a.below)), a.below)
 
     clocks-so-far : clocks ≤ 176
     clocks-so-far = omega (arith, ap (λ (x : Run). x.clocks) a.state, clocks-small ran run₀, a.below)
@@ -79,30 +80,31 @@ module _ {start : Machine} {memory₀ out₀ : List ℕ} {at₀ : ℕ} where
           )
 
       -- one line more
-      pub turn : {out' : List ℕ} {at' word : ℕ} → (r.ran ≡ 0 → ⊥) → ran < most_lines
-          → length memory' ≡ length memory → length out' ≡ length out → word ≡ instruction memory machine
-          → Extends out at (line (ran + 1) (pc memory machine) word r.clocks r.machine.flags) out' at'
-          → At start memory₀ out₀ at₀ memory' out' r.machine at' (ran + 1) (clocks + r.clocks)
-      turn went less same same-room word-is put =
+      pub turn : {writer' : Writer} {word : ℕ} → (r.ran ≡ 0 → ⊥) → ran < most_lines
+          → length memory' ≡ length memory → word ≡ instruction memory machine
+          → Writes writer (line (ran + 1) (pc memory machine) word r.clocks r.machine.flags) writer'
+          → At start memory₀ writer₀ memory' writer' r.machine (ran + 1) (clocks + r.clocks)
+      turn went less same word-is put =
           let goes : (one_run machine memory).ran ≡ 0 → ⊥ = λ e. went (ap (λ (x : RunResult). x.ran) now-is ∙ e) in
           record {
             state = next-run run₀ a.state goes ∙ rw (now-is, words_are);
-            text = rw (next-lines run₀ a.state goes) (a.text ⊳ (rw (now-is, word-is) at put));
+            told = rw (next-lines run₀ a.state goes) (a.told ⊳ (rw (now-is, word-is) at put));
             below = omega arith;
             words = same ∙ a.words;
-            room = same-room ∙ a.room;
           }
 
       -- the run stops
-      pub stopped : {e : Ending} {out₋ out' : List ℕ} {q : ℕ} → r.ran ≡ 0 → ran < most_lines → Extends out₋ 0 heading out₀ at₀
-          → e ≡ ending_of r.answer → Extends out at (ending_text (ending_word e) ran clocks) out' q → RunPuts start memory₀ out₋ memory' out' q
+      pub stopped : {e : Ending} {out out' : List ℕ} {size : ℕ} {w w' : Writer} → r.ran ≡ 0 → ran < most_lines
+          → (w.out.now ≡ out) × (w.at ≡ 0) → Writes w heading writer₀ → e ≡ ending_of r.answer
+          → Writes writer (ending_text (ending_word e) ran clocks) w' → out' ≡ w'.out.now → size ≡ w'.at
+          → RunPuts start memory₀ out memory' out' size
       unfolding stop
-      stopped {e} none less top said put =
+      stopped {e} none less begun top said put left told =
           let stays : (one_run machine memory).ran ≡ 0 = sym (ap (λ (x : RunResult). x.ran) now-is) ∙ none in
           let why : e ≡ (one_run machine memory).ending =
           said ∙ ap (λ (x : RunResult). ending_of x.answer) now-is in
           record {
-            text = rw (stopped-text run₀ a.state less stays) at (top ⊳ a.text ⊳ (rw why at put));
+            text = rw (stopped-text run₀ a.state less stays) at (written begun (top ⊳ a.told ⊳ (rw why at put)) left told);
             words =
                 words_are
                 ∙ (stops machine memory ran clocks stays).1
@@ -110,12 +112,13 @@ module _ {start : Machine} {memory₀ out₀ : List ℕ} {at₀ : ℕ} where
           }
 
     -- all instructions ran
-    pub finished : {out₋ out' : List ℕ} {q : ℕ} → most_lines ≤ ran → Extends out₋ 0 heading out₀ at₀
-        → Extends out at (ending_text (ending_word Finished) most_lines clocks) out' q → RunPuts start memory₀ out₋ memory out' q
-    finished {out'} {q} most top put =
+    pub finished : {out out' : List ℕ} {size : ℕ} {w w' : Writer} → most_lines ≤ ran → (w.out.now ≡ out) × (w.at ≡ 0)
+        → Writes w heading writer₀ → Writes writer (ending_text (ending_word Finished) most_lines clocks) w' → out' ≡ w'.out.now → size ≡ w'.at
+        → RunPuts start memory₀ out memory out' size
+    finished {w' = w'} most begun top put left told =
         let all : ran ≡ most_lines = omega (arith, a.below) in
-        let put' = subst (λ (n : ℕ). Extends out at (ending_text (ending_word Finished) n clocks) out' q) (sym all) put in
+        let put' = subst (λ (n : ℕ). Writes writer (ending_text (ending_word Finished) n clocks) w') (sym all) put in
         record {
-          text = rw (finished-text run₀ a.state all) at (top ⊳ a.text ⊳ put');
+          text = rw (finished-text run₀ a.state all) at (written begun (top ⊳ a.told ⊳ put') left told);
           words = sym (ap (λ (x : Run). x.memory) a.state) ∙ ap (λ (n : ℕ). (interpret ledger_board n run₀).memory) all;
         }

@@ -3,6 +3,7 @@
 
 mod lines;
 mod running;
+mod writer;
 
 ghost use Rattle.ledger_text.specs.Report.{Reports, ReportsInput};
 

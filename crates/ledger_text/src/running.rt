@@ -6,6 +6,7 @@ ghost use Rattle.ledger_lines.specs.Lines.{ledger_board};
 ghost use Rattle.ledger_text.specs.Parts.{ending_of, RunPuts};
 
 use super::lines::{put_ending, put_heading, put_line};
+use super::writer::Writer;
 use interpreter::{RunResult, run};
 use model::{Ending, Machine, Refusal};
 use operands::load;
@@ -31,7 +32,8 @@ pub fn put_run(memory: &mut [u32], start: Machine, out: &mut [u8]) -> usize
     requires { (0 < length memory.old) × (length memory.old ≤ most_words) }
     ensures { RunPuts start memory.old out.old memory.new out.new result }
 {
-    let mut at = put_heading(out);
+    let mut writer = Writer::new(out);
+    put_heading(&mut writer);
     let mut machine = start;
     let mut clocks = 0;
     for ran in 0..MOST_LINES {
@@ -40,11 +42,20 @@ pub fn put_run(memory: &mut [u32], start: Machine, out: &mut [u8]) -> usize
         let step = run_one(memory, machine);
         if step.ran == 0 {
             let answer = step.answer;
-            return put_ending(out, at, ending_of(answer), ran, clocks);
+            put_ending(&mut writer, ending_of(answer), ran, clocks);
+            return writer.size();
         }
         machine = step.machine;
         clocks += step.clocks;
-        at = put_line(out, at, ran + 1, address, word, step.clocks, machine.flags);
+        put_line(
+            &mut writer,
+            ran + 1,
+            address,
+            word,
+            step.clocks,
+            machine.flags,
+        );
     }
-    put_ending(out, at, Ending::Finished, MOST_LINES, clocks)
+    put_ending(&mut writer, Ending::Finished, MOST_LINES, clocks);
+    writer.size()
 }

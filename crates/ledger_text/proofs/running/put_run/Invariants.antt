@@ -2,4 +2,4 @@ use Rattle.ledger_text.proofs.Turns.{At}
 use Rattle.ledger_text.proofs.running.put_run.Given as goal
 
 abbrev pub invariant-loop-ran : goal.invariant-loop-ran
-invariant-loop-ran l = At l.initial.machine l.initial.memory l.initial.out l.initial.at l.memory l.out l.machine l.at l.ran l.clocks
+invariant-loop-ran l = At l.initial.machine l.initial.memory l.initial.writer l.memory l.writer l.machine l.ran l.clocks
