@@ -1,58 +1,60 @@
 // The cases, read a word at a time; past the input's end every word is 0.
-ghost use Rattle.std.specs.Prelude.{◌≤◌, IfOk};
+ghost use Rattle.std.specs.Prelude.{◌≤◌};
 
-use std::alloc::Global;
+use arrayvec::ArrayVec;
 use std::array;
-use std::io::{self, Bytes, Read};
+use std::io::Read;
 
 // The longest memory and wait list of a case.
-const MOST_LIST: u32 = 64;
+const MOST_LIST: usize = 64;
 
+// Reads no byte ahead: what stands behind the case that ends the program is left to whoever reads on.
 #[derive(Drop)]
 pub struct CaseReader<R> {
-    bytes: Bytes<R>,
+    input: R,
 }
 
 impl<R: Read + Drop> CaseReader<R> {
     pub fn new(input: R) -> CaseReader<R> {
-        CaseReader {
-            bytes: input.bytes(),
-        }
+        CaseReader { input }
     }
 
-    fn next_byte(&mut self) -> io::Result<u8> {
-        self.bytes.next().unwrap_or(Ok(0))
-    }
-
-    // The lowest byte comes first.
-    pub fn next_word(&mut self) -> io::Result<u32> {
-        let bytes = array::try_from_fn(|_| self.next_byte())?;
-        Ok(u32::from_le_bytes(bytes))
+    // The lowest byte comes first. An input that cannot be read is at its end: the bytes that are missing stay 0.
+    pub fn next_word(&mut self) -> u32 {
+        let mut bytes = [0u8; 4];
+        let _ = self.input.read_exact(&mut bytes);
+        u32::from_le_bytes(bytes)
     }
 
     // A number, at most `most`.
-    pub fn next_number(&mut self, most: u32) -> io::Result<u32>
-        ensures { IfOk result (λ n. n ≤ most) }
+    pub fn next_number(&mut self, most: u32) -> u32
+        ensures { result ≤ most }
     {
-        Ok(self.next_word()?.min(most))
+        self.next_word().min(most)
     }
 
-    pub fn next_flag(&mut self) -> io::Result<bool> {
-        Ok(self.next_word()? != 0)
+    pub fn next_flag(&mut self) -> bool {
+        self.next_word() != 0
     }
 
-    pub fn next_list(&mut self, alloc: Global) -> io::Result<Vec<u32>> {
-        let count = self.next_number(MOST_LIST)?;
-        (0..count).map(|_| self.next_word()).try_collect(alloc)
+    pub fn next_list(&mut self) -> ArrayVec<u32, MOST_LIST> {
+        let mut list = ArrayVec::new();
+        for _ in 0..self.next_number(MOST_LIST as u32) {
+            let _ = list.try_push(self.next_word());
+        }
+        list
     }
 
-    pub fn next_waits(&mut self, alloc: Global) -> io::Result<Vec<u16>> {
-        let words = self.next_list(alloc)?;
-        Ok(words.iter().map(|word| low_half(*word)).collect(alloc)?)
+    pub fn next_waits(&mut self) -> ArrayVec<u16, MOST_LIST> {
+        let mut list = ArrayVec::new();
+        for _ in 0..self.next_number(MOST_LIST as u32) {
+            let _ = list.try_push(low_half(self.next_word()));
+        }
+        list
     }
 
-    pub fn next_registers(&mut self) -> io::Result<[u32; 8]> {
-        array::try_from_fn(|_| self.next_word())
+    pub fn next_registers(&mut self) -> [u32; 8] {
+        array::from_fn(|_| self.next_word())
     }
 }
 

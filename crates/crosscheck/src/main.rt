@@ -7,7 +7,8 @@
 //     one operation (`gates::unit_around`), with the ripple adder and with the adder by halves
 //   3, adder, n
 //     n operations with one adder (0 ripple, 1 by halves), one after the other, to be timed from outside
-// Any other kind ends the program, as the input's end does.
+// Any other kind ends the program, as the input's end does. A case's line is written out before the next case is read, so that a caller may wait for
+// it, and one that cannot be written is passed over.
 #![tactic(auto)]
 
 mod input;
@@ -18,7 +19,7 @@ mod unit;
 
 use input::CaseReader;
 use state::state_case;
-use std::io::{self, BufReader, BufWriter, Write};
+use std::io;
 use unit::{sequence_case, unit_case};
 
 const MOST_CASES: u32 = 1_048_576;
@@ -41,17 +42,15 @@ impl Kind {
     }
 }
 
-fn main(rt: HostRuntime) -> io::Result<()> {
-    let alloc = rt.alloc();
-    let mut cases = CaseReader::new(BufReader::new(alloc, rt.reader())?);
-    let mut out = BufWriter::new(alloc, io::writer(&rt))?;
+fn main(rt: HostRuntime) {
+    let mut cases = CaseReader::new(rt.reader());
+    let mut out = io::writer(&rt);
     for _ in 0..MOST_CASES {
-        match Kind::of(cases.next_word()?) {
-            Some(Kind::State) => state_case(&mut cases, &mut out, alloc)?,
-            Some(Kind::Unit) => unit_case(&mut cases, &mut out)?,
-            Some(Kind::Sequence) => sequence_case(&mut cases, &mut out)?,
+        match Kind::of(cases.next_word()) {
+            Some(Kind::State) => state_case(&mut cases, &mut out),
+            Some(Kind::Unit) => unit_case(&mut cases, &mut out),
+            Some(Kind::Sequence) => sequence_case(&mut cases, &mut out),
             None => break,
         }
     }
-    out.flush()
 }

@@ -1,30 +1,29 @@
 // A gate state: what a number of clocks makes of it, one at a time.
 use super::input::{CaseReader, low_half};
 use super::lending::clock_by_clock;
-use super::print::{FlagDigits, Words};
+use super::print::{FlagDigits, Words, new_line, print};
 use model::{GateState, Refusal};
 use packed_flags::unpacked;
 use refusals::refusal_number;
-use std::alloc::Global;
 use std::fmt;
-use std::io::{self, Read, Write};
+use std::io::{Read, Write};
 
 const MOST_CLOCKS: u32 = 400;
 
-fn next_state<R: Read + Drop>(cases: &mut CaseReader<R>) -> io::Result<GateState> {
-    Ok(GateState {
-        regs: cases.next_registers()?,
-        flags: unpacked(cases.next_word()?),
-        row: (cases.next_word()? & 0xff) as u8,
-        instruction: cases.next_word()?,
-        address: cases.next_word()?,
-        a: cases.next_word()?,
-        b: cases.next_word()?,
-        result: cases.next_word()?,
-        position: cases.next_word()?,
-        begun: cases.next_flag()?,
-        left: low_half(cases.next_word()?),
-    })
+fn next_state<R: Read + Drop>(cases: &mut CaseReader<R>) -> GateState {
+    GateState {
+        regs: cases.next_registers(),
+        flags: unpacked(cases.next_word()),
+        row: (cases.next_word() & 0xff) as u8,
+        instruction: cases.next_word(),
+        address: cases.next_word(),
+        a: cases.next_word(),
+        b: cases.next_word(),
+        result: cases.next_word(),
+        position: cases.next_word(),
+        begun: cases.next_flag(),
+        left: low_half(cases.next_word()),
+    }
 }
 
 // ran FINISHED, or refused NUMBER and none finished.
@@ -61,22 +60,26 @@ impl fmt::Display for State {
 }
 
 // lent ANSWER finished, the state, m0..
-pub fn state_case<R: Read + Drop, W: Write>(
-    cases: &mut CaseReader<R>,
-    out: &mut W,
-    alloc: Global,
-) -> io::Result<()> {
-    let mut memory = cases.next_list(alloc)?;
-    let bottom = cases.next_word()?;
-    let waits = cases.next_waits(alloc)?;
-    let start = next_state(cases)?;
-    let clocks = cases.next_number(MOST_CLOCKS)?;
-    let end = clock_by_clock(&mut memory, bottom, &waits, start, clocks);
-    writeln!(
-        out,
+pub fn state_case<R: Read + Drop, W: Write>(cases: &mut CaseReader<R>, out: &mut W) {
+    let mut memory = cases.next_list();
+    let bottom = cases.next_word();
+    let waits = cases.next_waits();
+    let start = next_state(cases);
+    let clocks = cases.next_number(MOST_CLOCKS);
+    let end = clock_by_clock(
+        memory.as_mut_slice(),
+        bottom,
+        waits.as_slice(),
+        start,
+        clocks,
+    );
+    let mut line = new_line();
+    let _ = writeln!(
+        line,
         "lent {} {}{}",
         Outcome(end.outcome),
         State(end.state),
-        Words(&memory)
-    )
+        Words(memory.as_slice())
+    );
+    print(out, &line);
 }

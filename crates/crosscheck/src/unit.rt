@@ -1,11 +1,11 @@
 // The arithmetic unit of gates around each of its adders.
 use super::input::CaseReader;
-use super::print::FlagDigits;
+use super::print::{FlagDigits, new_line, print};
 use arithmetic::AluOut;
 use gates::{Adder, Halves, Ripple, unit_around};
 use model::Flags;
 use std::fmt;
-use std::io::{self, Read, Write};
+use std::io::{Read, Write};
 
 const MOST_OPERATIONS: u32 = 16_777_216;
 
@@ -30,17 +30,16 @@ impl fmt::Display for Output {
 }
 
 // unit RESULT cvnz RESULT cvnz
-pub fn unit_case<R: Read + Drop, W: Write>(
-    cases: &mut CaseReader<R>,
-    out: &mut W,
-) -> io::Result<()> {
-    let operation = (cases.next_word()? & 0xff) as u8;
-    let a = cases.next_word()?;
-    let b = cases.next_word()?;
-    let carry = cases.next_flag()?;
+pub fn unit_case<R: Read + Drop, W: Write>(cases: &mut CaseReader<R>, out: &mut W) {
+    let operation = (cases.next_word() & 0xff) as u8;
+    let a = cases.next_word();
+    let b = cases.next_word();
+    let carry = cases.next_flag();
     let ripple = unit_around(Ripple, operation, a, b, carry);
     let halves = unit_around(Halves, operation, a, b, carry);
-    writeln!(out, "unit {} {}", Output(ripple), Output(halves))
+    let mut line = new_line();
+    let _ = writeln!(line, "unit {} {}", Output(ripple), Output(halves));
+    print(out, &line);
 }
 
 // The sixteen operations over and over, each on a new word, the last result and the last carry.
@@ -60,16 +59,17 @@ fn operate<A: Adder + Copy>(adder: A, count: u32) -> AluOut {
     out
 }
 
-// ran RESULT cvnz. The adder is 0 for the ripple adder, any other number for the adder by halves.
-pub fn sequence_case<R: Read + Drop, W: Write>(
-    cases: &mut CaseReader<R>,
-    out: &mut W,
-) -> io::Result<()> {
-    let adder = cases.next_word()?;
-    let count = cases.next_number(MOST_OPERATIONS)?;
+// ran RESULT cvnz. The adder is 0 for the ripple adder, any other number for the adder by halves. The first word is written out before the
+// operations begin, which may take seconds.
+pub fn sequence_case<R: Read + Drop, W: Write>(cases: &mut CaseReader<R>, out: &mut W) {
+    let adder = cases.next_word();
+    let count = cases.next_number(MOST_OPERATIONS);
+    let _ = out.write_all(b"ran");
     let last = match adder {
         0 => operate(Ripple, count),
         _ => operate(Halves, count),
     };
-    writeln!(out, "ran {}", Output(last))
+    let mut line = new_line();
+    let _ = writeln!(line, " {}", Output(last));
+    print(out, &line);
 }

@@ -6,7 +6,7 @@ ghost use Rattle.gate_rows.specs.Work.{state_of, Becomes, read_row, Works};
 use super::compute::compute;
 use super::latches::Latches;
 use model::Operand;
-use operands::{in_memory, is_instruction, load, operand_a, operand_b, store_above};
+use operands::{is_instruction, load, operand_a, operand_b, store_above};
 use registers::{register_word, set_register, step_down, step_pc, step_up};
 use step_table::Step;
 
@@ -26,7 +26,13 @@ fn prepare(s: Latches, o: Operand, second: bool, regs: &mut [u32; 8], step: Step
 {
     step_down(o, regs);
     let word = register_word(o, &*regs);
-    if in_memory(o) {
+    let addressed = match o {
+        Operand::Direct(_) => false,
+        Operand::Indirect(_) => true,
+        Operand::Before(_) => true,
+        Operand::After(_) => true,
+    };
+    if addressed {
         return s.with_address(word, step.memory);
     }
     if second {

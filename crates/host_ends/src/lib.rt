@@ -5,7 +5,7 @@
 mod codes;
 mod places;
 
-ghost use Rattle.std.specs.Prelude.{◌≡◌, cond};
+ghost use Rattle.std.specs.Prelude.{◌≡◌, cond, [], ◌∷◌};
 ghost use Rattle.host_reading.specs.Layout.{machine_size};
 ghost use Rattle.host_words.specs.Words.{machine_words, laid};
 ghost use Rattle.host_calls.specs.Codes.{file_code, traverse_code, finishes, undone_files};
@@ -102,6 +102,13 @@ fn end_files(ending: TraverseEnding, last: Machine, machine: &mut [u32]) -> u32
     }
 }
 
+// A traverse's places: its undone files, the instructions of the last file run, the journal's pairs.
+fn traverse_places(ending: TraverseEnding, ran: u32, pairs: usize) -> [u64; 3]
+    ensures { result ≡ undone_files (Ok ending) ∷ ran ∷ pairs ∷ [] }
+{
+    [undone_files(ending), ran as u64, pairs as u64]
+}
+
 pub fn end_traverse(r: TraverseResult, machine: &mut [u32], res: &mut [u64]) -> u32
     ensures { TraverseEnds r machine.old res.old machine.new res.new result }
 {
@@ -109,7 +116,7 @@ pub fn end_traverse(r: TraverseResult, machine: &mut [u32], res: &mut [u64]) -> 
     match answer {
         Err(why) => refusal_number(why),
         Ok(ending) => {
-            put_result([undone_files(ending), r.ran as u64, r.pairs as u64], res);
+            put_result(traverse_places(ending, r.ran, r.pairs), res);
             end_files(ending, r.machine, machine)
         }
     }

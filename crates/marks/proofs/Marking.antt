@@ -1,5 +1,5 @@
 -- What the code does to a map and asks of a journal: a bit set, words cleared, an address searched for, a store noted.
-use Prim.Native.Nat.{ℕ, zero, suc, ◌+◌, ◌-◌, ◌*◌, ◌/◌, ◌%◌, ◌^◌, ◌≤◌, ◌<◌}
+use Prim.Native.Nat.{ℕ, zero, suc, ◌+◌, ◌-◌, ◌*◌, ◌/◌, ◌%◌, ◌^◌, ◌≤◌, ◌<◌, min}
 use mathlib.Core.Path.{◌≡◌, refl, sym, ap, ◌∙◌}
 use mathlib.Core.Bool.{Bool, true, false, not, cond, ◌&&◌, ◌||◌}
 use mathlib.Core.List.{List, [], ◌∷◌}
@@ -14,6 +14,7 @@ use borrow.Author.Tests.{eqb-true, eqb-false, ltb-true, ltb-false, leb-true, le-
 use Rattle.std.specs.List.{list_any, range_with_len}
 use Rattle.model.specs.Words.{field, bit, word_at, store_word}
 use Rattle.model.specs.Journal.{room_in, noted}
+use Rattle.model.proofs.Stores.{sets-out}
 use Rattle.marks.specs.Marks.{group_of, given, spare, marked, has_mark, with_bit, with_group, with_mark, listed, searched, known, noting_at, Notes}
 
 -- ---- tests
@@ -82,6 +83,17 @@ clears_on map end i h =
     let e : suc (end - (i + 1)) ≡ end - i = omega arith in
     ap (λ (j : ℕ). sets (store_word map i 0) j (replicate (end - (i + 1)) 0)) f
     ∙ ap (λ (n : ℕ). sets map i (replicate n 0)) e
+
+-- where the map or the range ends nothing is left to clear
+pub cleared_all : (map : List ℕ) (end i : ℕ) → min (length map) end ≤ i → sets map i (replicate (end - i) 0) ≡ map
+cleared_all map end i h = go (ltb i (length map)) refl
+  where
+    go : (b : Bool) → ltb i (length map) ≡ b → sets map i (replicate (end - i) 0) ≡ map
+    go true e =
+        let less : i < length map = ltb-true i (length map) e in
+        let none : end - i ≡ 0 = omega arith in
+        ap (λ (n : ℕ). sets map i (replicate n 0)) none
+    go false e = sets-out map i (replicate (end - i) 0) (ltb-false i (length map) e)
 
 set-zero : (l : List ℕ) (i : ℕ) → word_at (set l i 0) i ≡ 0
 set-zero [] i = refl

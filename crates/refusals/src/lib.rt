@@ -2,7 +2,7 @@
 #![tactic(auto)]
 
 ghost use Rattle.std.specs.Prelude.{◌≡◌};
-ghost use Rattle.model.specs.Refusals.{refusal_number, demand, memory_fits};
+ghost use Rattle.model.specs.Refusals.{refusal_number, demand, ◌then◌, memory_fits};
 
 use model::Refusal;
 
@@ -42,11 +42,21 @@ pub fn demand(holds: bool, reason: Refusal) -> Result<(), Refusal>
     if holds { Ok(()) } else { Err(reason) }
 }
 
+// Of two verdicts the first refusal.
+pub fn then(first: Result<(), Refusal>, second: Result<(), Refusal>) -> Result<(), Refusal>
+    ensures { result ≡ first then second }
+{
+    first?;
+    second
+}
+
 // Reasons 1 and 2.
 pub fn memory_fits(memory: &[u32]) -> Result<(), Refusal>
     ensures { result ≡ memory_fits memory.now }
 {
     let words = memory.len();
-    demand(0 < words, Refusal::NoWords)?;
-    demand(words <= MOST_WORDS, Refusal::TooManyWords)
+    then(
+        demand(0 < words, Refusal::NoWords),
+        demand(words <= MOST_WORDS, Refusal::TooManyWords),
+    )
 }

@@ -3,7 +3,6 @@ ghost use Rattle.std.specs.Prelude.{◌≡◌};
 ghost use Rattle.step.specs.Steps.{taken_of, Takes};
 
 use model::Operand;
-use operands::in_memory;
 use registers::{register_word, set_register, step_down};
 
 // Its register's word, its value.
@@ -18,10 +17,11 @@ fn look(o: Operand, regs: &[u32; 8], memory: &[u32]) -> Option<Taken>
     ensures { result ≡ taken_of o regs.now memory.now }
 {
     let word = register_word(o, regs);
-    let value = if in_memory(o) {
-        *memory.get(word as usize)?
-    } else {
-        word
+    let value = match o {
+        Operand::Direct(_) => word,
+        Operand::Indirect(_) | Operand::Before(_) | Operand::After(_) => {
+            *memory.get(word as usize)?
+        }
     };
     Some(Taken { word, value })
 }

@@ -1,17 +1,40 @@
-use mathlib.Core.Path.{◌∙◌}
+use mathlib.Core.Path.{◌≡◌, sym, ap, ◌∙◌}
+use Rattle.model.specs.Operands.{in_memory}
+use Rattle.gate_rows.proofs.row.prepare.Goals.{in-Direct, in-Indirect, in-Before, in-After}
 use Rattle.gate_rows.proofs.row.prepare.Goals as goal
 
-pub returns-then-in_memory : goal.returns-then-in_memory
-returns-then-in_memory c =
+pub returns-then-addressed : goal.returns-then-addressed
+returns-then-addressed c =
+    let args = c.args in
+    let matched : c.match-o.addressed ≡ in_memory args.o = elim c.match-o.branch [
+      | in-Direct w ↦ w.addressed-is ∙ sym (ap in_memory w.in-Direct.is)
+      | in-Indirect w ↦ w.addressed-is ∙ sym (ap in_memory w.in-Indirect.is)
+      | in-Before w ↦ w.addressed-is ∙ sym (ap in_memory w.in-Before.is)
+      | in-After w ↦ w.addressed-is ∙ sym (ap in_memory w.in-After.is)
+    ] in
     c.with_address.ensures _
-    ∙ rw (c.register_word-word.ensures, c.step_down.ensures, ← c.in_memory.ensures, c.if-in_memory.true)
+    ∙ rw (c.register_word-word.ensures, c.step_down.ensures, ← matched, c.if-addressed.true)
 
 pub returns-then-second : goal.returns-then-second
 returns-then-second c =
+    let args = c.args in
+    let matched : c.match-o.addressed ≡ in_memory args.o = elim c.match-o.branch [
+      | in-Direct w ↦ w.addressed-is ∙ sym (ap in_memory w.in-Direct.is)
+      | in-Indirect w ↦ w.addressed-is ∙ sym (ap in_memory w.in-Indirect.is)
+      | in-Before w ↦ w.addressed-is ∙ sym (ap in_memory w.in-Before.is)
+      | in-After w ↦ w.addressed-is ∙ sym (ap in_memory w.in-After.is)
+    ] in
     c.with_b.ensures _
-    ∙ rw (c.register_word-word.ensures, c.step_down.ensures, ← c.in_memory.ensures, c.if-in_memory.false, c.if-second.true)
+    ∙ rw (c.register_word-word.ensures, c.step_down.ensures, ← matched, c.if-addressed.false, c.if-second.true)
 
 pub returns : goal.returns
 returns c =
+    let args = c.args in
+    let matched : c.match-o.addressed ≡ in_memory args.o = elim c.match-o.branch [
+      | in-Direct w ↦ w.addressed-is ∙ sym (ap in_memory w.in-Direct.is)
+      | in-Indirect w ↦ w.addressed-is ∙ sym (ap in_memory w.in-Indirect.is)
+      | in-Before w ↦ w.addressed-is ∙ sym (ap in_memory w.in-Before.is)
+      | in-After w ↦ w.addressed-is ∙ sym (ap in_memory w.in-After.is)
+    ] in
     c.with_a.ensures _
-    ∙ rw (c.register_word-word.ensures, c.step_down.ensures, ← c.in_memory.ensures, c.if-in_memory.false, c.if-second.false)
+    ∙ rw (c.register_word-word.ensures, c.step_down.ensures, ← matched, c.if-addressed.false, c.if-second.false)
