@@ -7,8 +7,8 @@
 //     one operation (`gates::unit_around`), with the ripple adder and with the adder by halves
 //   3, adder, n
 //     n operations with one adder (0 ripple, 1 by halves), one after the other, to be timed from outside
-// Any other kind ends the program, as the input's end does. A case's line is written out before the next case is read, so that a caller may wait for
-// it, and one that cannot be written is passed over.
+// Any other kind ends the program, as the input's end does. A case's line is written out, part by part, before the next case is read, so that a caller
+// may wait for it; what cannot be written is passed over.
 #![tactic(auto)]
 
 mod input;

@@ -1,46 +1,55 @@
-// How a line and its parts are printed.
+// A line's parts. Each is written out by itself and at once, and one that cannot be written is passed over.
 use model::Flags;
-use std::fmt;
+use std::fmt::{self, Display};
 use std::io::{Cursor, Write};
 
-// More than the longest line has: that of a state with 64 words of memory, some 800 bytes.
-const LINE_ROOM: usize = 1_024;
+// More than a part has that is made of a value: a number of 64 bits has 20 digits.
+const PART_ROOM: usize = 24;
 
-pub type Line = Cursor<[u8; LINE_ROOM]>;
-
-pub fn new_line() -> Line {
-    Cursor::new([0; LINE_ROOM])
+pub fn print<W: Write>(out: &mut W, text: &[u8]) {
+    let _ = out.write_all(text);
 }
 
-// Written out whole, and at once. A line that cannot be written is passed over.
-pub fn print<W: Write>(out: &mut W, line: &Line) {
-    let size = line.position().min(LINE_ROOM as u64) as usize;
-    let _ = out.write_all(&line.get_ref()[..size]);
+pub fn print_part<W: Write, D: Display + Drop>(out: &mut W, part: D) {
+    let mut text = Cursor::new([0; PART_ROOM]);
+    let _ = write!(text, "{part}");
+    let size = text.position().min(PART_ROOM as u64) as usize;
+    print(out, &text.get_ref()[..size]);
 }
 
-// The words, each with a space before it.
-#[derive(Clone, Copy)]
-pub struct Words<'a>(pub &'a [u32]);
+// A number, and the space before it.
+pub fn print_number<W: Write>(out: &mut W, number: u64) {
+    print(out, b" ");
+    print_part(out, number);
+}
 
-impl fmt::Display for Words<'_> {
-    fn fmt<W: fmt::Write>(&self, f: &mut fmt::Formatter<W>) -> fmt::Result {
-        for word in self.0 {
-            write!(f, " {word:08X}")?;
-        }
-        Ok(())
+pub fn print_words<W: Write>(out: &mut W, words: &[u32]) {
+    for word in words {
+        print_part(out, Word(*word));
     }
 }
 
-// The flags as four digits: cvnz.
+// A word, with a space before it.
+#[derive(Clone, Copy)]
+pub struct Word(pub u32);
+
+impl Display for Word {
+    fn fmt<W: fmt::Write>(&self, f: &mut fmt::Formatter<W>) -> fmt::Result {
+        let word = self.0;
+        write!(f, " {word:08X}")
+    }
+}
+
+// The flags as four digits, cvnz, with a space before them.
 #[derive(Clone, Copy)]
 pub struct FlagDigits(pub Flags);
 
-impl fmt::Display for FlagDigits {
+impl Display for FlagDigits {
     fn fmt<W: fmt::Write>(&self, f: &mut fmt::Formatter<W>) -> fmt::Result {
         let flags = self.0;
         write!(
             f,
-            "{}{}{}{}",
+            " {}{}{}{}",
             flags.carry as u8, flags.overflow as u8, flags.negative as u8, flags.zero as u8
         )
     }

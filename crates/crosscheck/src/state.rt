@@ -1,11 +1,10 @@
 // A gate state: what a number of clocks makes of it, one at a time.
 use super::input::{CaseReader, low_half};
 use super::lending::clock_by_clock;
-use super::print::{FlagDigits, Words, new_line, print};
+use super::print::{FlagDigits, print, print_number, print_part, print_words};
 use model::{GateState, Refusal};
 use packed_flags::unpacked;
 use refusals::refusal_number;
-use std::fmt;
 use std::io::{Read, Write};
 
 const MOST_CLOCKS: u32 = 400;
@@ -27,36 +26,26 @@ fn next_state<R: Read + Drop>(cases: &mut CaseReader<R>) -> GateState {
 }
 
 // ran FINISHED, or refused NUMBER and none finished.
-#[derive(Clone, Copy)]
-struct Outcome(Result<u64, Refusal>);
-
-impl fmt::Display for Outcome {
-    fn fmt<W: fmt::Write>(&self, f: &mut fmt::Formatter<W>) -> fmt::Result {
-        match self.0 {
-            Ok(finished) => write!(f, "ran {finished}"),
-            Err(why) => write!(f, "refused {} 0", refusal_number(why)),
+fn print_outcome<W: Write>(out: &mut W, outcome: Result<u64, Refusal>) {
+    match outcome {
+        Ok(_) => print(out, b" ran"),
+        Err(why) => {
+            print(out, b" refused");
+            print_number(out, refusal_number(why) as u64);
         }
     }
+    print_number(out, outcome.unwrap_or(0));
 }
 
 // cvnz r0..r7 row instruction address a b result position begun left
-#[derive(Clone, Copy)]
-struct State(GateState);
-
-impl fmt::Display for State {
-    fn fmt<W: fmt::Write>(&self, f: &mut fmt::Formatter<W>) -> fmt::Result {
-        let s = self.0;
-        write!(f, "{}{} {}", FlagDigits(s.flags), Words(&s.regs), s.row)?;
-        let latches = [s.instruction, s.address, s.a, s.b, s.result];
-        write!(
-            f,
-            "{} {} {} {}",
-            Words(&latches),
-            s.position,
-            s.begun as u8,
-            s.left
-        )
-    }
+fn print_state<W: Write>(out: &mut W, s: GateState) {
+    print_part(out, FlagDigits(s.flags));
+    print_words(out, &s.regs);
+    print_number(out, s.row as u64);
+    print_words(out, &[s.instruction, s.address, s.a, s.b, s.result]);
+    print_number(out, s.position as u64);
+    print_number(out, s.begun as u64);
+    print_number(out, s.left as u64);
 }
 
 // lent ANSWER finished, the state, m0..
@@ -73,13 +62,9 @@ pub fn state_case<R: Read + Drop, W: Write>(cases: &mut CaseReader<R>, out: &mut
         start,
         clocks,
     );
-    let mut line = new_line();
-    let _ = writeln!(
-        line,
-        "lent {} {}{}",
-        Outcome(end.outcome),
-        State(end.state),
-        Words(memory.as_slice())
-    );
-    print(out, &line);
+    print(out, b"lent");
+    print_outcome(out, end.outcome);
+    print_state(out, end.state);
+    print_words(out, memory.as_slice());
+    print(out, b"\n");
 }

@@ -1,10 +1,9 @@
 // The arithmetic unit of gates around each of its adders.
 use super::input::CaseReader;
-use super::print::{FlagDigits, new_line, print};
+use super::print::{FlagDigits, Word, print, print_part};
 use arithmetic::AluOut;
 use gates::{Adder, Halves, Ripple, unit_around};
 use model::Flags;
-use std::fmt;
 use std::io::{Read, Write};
 
 const MOST_OPERATIONS: u32 = 16_777_216;
@@ -13,20 +12,17 @@ const MOST_OPERATIONS: u32 = 16_777_216;
 const STRIDE: u32 = 2_654_435_769;
 
 // RESULT cvnz
-#[derive(Clone, Copy)]
-struct Output(AluOut);
-
-impl fmt::Display for Output {
-    fn fmt<W: fmt::Write>(&self, f: &mut fmt::Formatter<W>) -> fmt::Result {
-        let out = self.0;
-        let flags = Flags {
-            carry: out.carry,
-            overflow: out.overflow,
-            negative: out.negative,
-            zero: out.zero,
-        };
-        write!(f, "{:08X} {}", out.result, FlagDigits(flags))
-    }
+fn print_output<W: Write>(out: &mut W, output: AluOut) {
+    print_part(out, Word(output.result));
+    print_part(
+        out,
+        FlagDigits(Flags {
+            carry: output.carry,
+            overflow: output.overflow,
+            negative: output.negative,
+            zero: output.zero,
+        }),
+    );
 }
 
 // unit RESULT cvnz RESULT cvnz
@@ -35,11 +31,10 @@ pub fn unit_case<R: Read + Drop, W: Write>(cases: &mut CaseReader<R>, out: &mut 
     let a = cases.next_word();
     let b = cases.next_word();
     let carry = cases.next_flag();
-    let ripple = unit_around(Ripple, operation, a, b, carry);
-    let halves = unit_around(Halves, operation, a, b, carry);
-    let mut line = new_line();
-    let _ = writeln!(line, "unit {} {}", Output(ripple), Output(halves));
-    print(out, &line);
+    print(out, b"unit");
+    print_output(out, unit_around(Ripple, operation, a, b, carry));
+    print_output(out, unit_around(Halves, operation, a, b, carry));
+    print(out, b"\n");
 }
 
 // The sixteen operations over and over, each on a new word, the last result and the last carry.
@@ -64,12 +59,11 @@ fn operate<A: Adder + Copy>(adder: A, count: u32) -> AluOut {
 pub fn sequence_case<R: Read + Drop, W: Write>(cases: &mut CaseReader<R>, out: &mut W) {
     let adder = cases.next_word();
     let count = cases.next_number(MOST_OPERATIONS);
-    let _ = out.write_all(b"ran");
+    print(out, b"ran");
     let last = match adder {
         0 => operate(Ripple, count),
         _ => operate(Halves, count),
     };
-    let mut line = new_line();
-    let _ = writeln!(line, " {}", Output(last));
-    print(out, &line);
+    print_output(out, last);
+    print(out, b"\n");
 }
